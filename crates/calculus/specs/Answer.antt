@@ -1,0 +1,46 @@
+-- What a call answers: something, or a refusal with its reason and its place (document 01, Calls).
+use Prim.Native.Nat.{ℕ}
+use mathlib.Core.Bool.{Bool, true, false}
+
+-- The reasons, in the order of document 01's numbers.
+pub data Reason : Type 0 where
+  limit-not-allowed work-short output-short length-not-allowed : Reason
+  no-meaning list-ends words-after level-65 unbound : Reason
+  not-star not-product wrong-argument no-step wrong-cast wrong-recursion over-limit : Reason
+
+-- Document 01's number of each reason.
+unfoldable pub number : Reason → ℕ
+number limit-not-allowed = 1
+number work-short = 2
+number output-short = 3
+number length-not-allowed = 4
+number no-meaning = 5
+number list-ends = 6
+number words-after = 7
+number level-65 = 8
+number unbound = 9
+number not-star = 10
+number not-product = 11
+number wrong-argument = 12
+number no-step = 13
+number wrong-cast = 14
+number wrong-recursion = 15
+number over-limit = 16
+
+pub data Answer (A : Type 0) : Type 0 where
+  ok : A → Answer A
+  refused : Reason → ℕ → Answer A
+
+infixl 10 _>>=_ _>>_
+-- One thing after another: the first refusal is the answer.
+unfoldable pub _>>=_ : {A B : Type 0} → Answer A → (A → Answer B) → Answer B
+_>>=_ (ok a) f = f a
+_>>=_ (refused r p) f = refused r p
+
+unfoldable pub _>>_ : {A B : Type 0} → Answer A → Answer B → Answer B
+_>>_ a b = a >>= λ _. b
+
+-- A test that passes, or refuses by a reason at a place.
+unfoldable pub require : Reason → ℕ → Bool → Answer (Unit {0})
+require r p true = ok tt
+require r p false = refused r p

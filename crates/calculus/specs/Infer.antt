@@ -1,0 +1,81 @@
+-- The type of a term within a limit, as a function in document 01's order ("Typing, in checking order"). Believed only through the
+-- theorems that it answers what the rules give and refuses where `Fails` says.
+use Prim.Native.Nat.{ℕ, zero, suc}
+use mathlib.Core.Bool.{Bool, decide}
+use mathlib.Core.List.{[], _∷_}
+use native.Mathlib.Decide.{ℕ-discrete}
+use lib.Dec.{leb}
+use Rattle.calculus.specs.Term.{Term, Term-discrete, var, star, app, lam, pi, castup, castdown, mu, size, raise, substitute}
+use Rattle.calculus.specs.Answer.{Answer, ok, refused, _>>=_, _>>_, require, not-star, not-product, wrong-argument, no-step, wrong-cast, wrong-recursion, over-limit}
+use Rattle.calculus.specs.Rules.{Context}
+use Rattle.calculus.specs.Failing.{first-part, second-part}
+use Rattle.calculus.specs.Step.{Next, value, stuck, next, step}
+
+-- A variable's annotation, raised to the present context. (No variable of a closed term is outside its context.)
+unfoldable pub annotation : Context → ℕ → Term
+annotation [] i = star
+annotation (τ ∷ Γ) zero = raise 1 0 τ
+annotation (τ ∷ Γ) (suc i) = raise 1 0 (annotation Γ i)
+
+unfoldable pub same : Term → Term → Bool
+same σ τ = decide (Term-discrete ℕ-discrete σ τ)
+
+-- "One longer than the limit L is answered 16."
+unfoldable pub measure : ℕ → ℕ → Term → Answer Term
+measure L p τ = do
+  require over-limit p (leb (size τ) L)
+  ok τ
+
+unfoldable pub product : ℕ → Term → Answer (Term × Term)
+product p (var i) = refused not-product p
+product p star = refused not-product p
+product p (app f u) = refused not-product p
+product p (lam a e) = refused not-product p
+product p (pi a b) = ok (a, b)
+product p (castup a e) = refused not-product p
+product p (castdown e) = refused not-product p
+product p (mu a e) = refused not-product p
+
+unfoldable pub stepped : ℕ → Next → Answer Term
+stepped p value = refused no-step p
+stepped p stuck = refused no-step p
+stepped p (next τ) = ok τ
+
+unfoldable pub infer : ℕ → Context → ℕ → Term → Answer Term
+infer L Γ p (var i) = measure L p (annotation Γ i)
+infer L Γ p star = measure L p star
+infer L Γ p (app f u) = do
+  τ ← infer L Γ (first-part p) f
+  (a, b) ← product p τ
+  σ ← infer L Γ (second-part p f) u
+  require wrong-argument p (same σ a)
+  measure L p (substitute 0 u b)
+infer L Γ p (lam a e) = do
+  σ ← infer L Γ (first-part p) a
+  require not-star (first-part p) (same σ star)
+  b ← infer L (a ∷ Γ) (second-part p a) e
+  measure L p (pi a b)
+infer L Γ p (pi a b) = do
+  σ ← infer L Γ (first-part p) a
+  require not-star (first-part p) (same σ star)
+  τ ← infer L (a ∷ Γ) (second-part p a) b
+  require not-star (second-part p a) (same τ star)
+  measure L p star
+infer L Γ p (castup a e) = do
+  σ ← infer L Γ (first-part p) a
+  require not-star (first-part p) (same σ star)
+  τ ← infer L Γ (second-part p a) e
+  a′ ← stepped p (step a)
+  _ ← measure L p a′
+  require wrong-cast p (same a′ τ)
+  measure L p a
+infer L Γ p (castdown e) = do
+  τ ← infer L Γ (first-part p) e
+  τ′ ← stepped p (step τ)
+  measure L p τ′
+infer L Γ p (mu a e) = do
+  σ ← infer L Γ (first-part p) a
+  require not-star (first-part p) (same σ star)
+  τ ← infer L (a ∷ Γ) (second-part p a) e
+  require wrong-recursion p (same τ (raise 1 0 a))
+  measure L p a

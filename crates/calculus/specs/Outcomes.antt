@@ -1,0 +1,126 @@
+-- The outcomes of the calls `check`, `run` and `part` (document 01, Calls) for any lists of words and any numbers: the answer and
+-- every word of every lent slice.
+use Prim.Native.Nat.{ℕ, zero, suc, _+_, _-_, _*_, min}
+use mathlib.Core.Bool.{cond, _&&_}
+use mathlib.Core.List.{List, [], _∷_, _++_}
+use lib.Dec.{leb}
+use lib.ListN.{length, take, drop, replicate}
+use Rattle.calculus.specs.Term.{Term, var, star, app, lam, pi, castup, castdown, mu, size}
+use Rattle.calculus.specs.Answer.{Answer, ok, refused, _>>=_, _>>_, require, number, limit-not-allowed, work-short, output-short}
+use Rattle.calculus.specs.Words.{words, longest}
+use Rattle.calculus.specs.Reading.{read}
+use Rattle.calculus.specs.Infer.{infer}
+use Rattle.calculus.specs.Run.{End, Ended, run-from}
+
+-- The room that each call asks for: "512 × L words (check) or 4,096 words (run)".
+abbrev pub largest-limit : ℕ
+largest-limit = 1024
+
+abbrev pub check-room : ℕ → ℕ
+check-room L = 512 * L
+
+abbrev pub run-room : ℕ
+run-room = 4096
+
+-- A slice whose first words are `front`, "the rest unchanged".
+unfoldable pub begun : List ℕ → List ℕ → List ℕ
+begun front slice = front ++ drop (length front) slice
+
+-- "Its first [n] words are 0, the rest unchanged."
+unfoldable pub cleared : ℕ → List ℕ → List ℕ
+cleared n slice = begun (replicate n 0) slice
+
+-- A check: the length of the type, or the refusal; and the two lent slices.
+pub record Checked : Type 0 where
+  pub answer : Answer ℕ
+  pub work : List ℕ
+  pub output : List ℕ
+
+-- The refusals in document 01's order, and otherwise the type.
+unfoldable pub verdict : List ℕ → ℕ → List ℕ → List ℕ → Answer Term
+verdict term L work output = do
+  require limit-not-allowed 0 (leb 1 L && leb L largest-limit)
+  require work-short 0 (leb (check-room L) (length work))
+  require output-short 0 (leb L (length output))
+  t ← read term
+  infer L [] 0 t
+
+-- "Refusals 1–9 leave the working slice too. After any other answer its first 512 × L words [...] are 0."
+unfoldable pub checked : ℕ → List ℕ → List ℕ → Answer Term → Checked
+checked L work output (ok τ) =
+    record { answer = ok (size τ); work = cleared (check-room L) work; output = begun (words τ) output }
+checked L work output (refused r p) =
+    record { answer = refused r p; work = cond (leb (number r) 9) work (cleared (check-room L) work); output = output }
+
+unfoldable pub check : List ℕ → ℕ → List ℕ → List ℕ → Checked
+check term L work output = checked L work output (verdict term L work output)
+
+-- A run: its end and steps, or the refusal; the allowance left on the desk; and the two lent slices.
+pub record Stop : Type 0 where
+  pub end : End
+  pub steps : ℕ
+
+pub record Ran : Type 0 where
+  pub answer : Answer Stop
+  pub allowance : ℕ
+  pub work : List ℕ
+  pub state : List ℕ
+
+-- "The grant is the smaller of budget and allowance."
+unfoldable pub course : List ℕ → ℕ → List ℕ → List ℕ → Answer Ended
+course term grant work state = do
+  require work-short 0 (leb run-room (length work))
+  require output-short 0 (leb longest (length state))
+  t ← read term
+  ok (run-from grant t)
+
+-- "The desk with the allowance lowered by exactly those steps. [...] A refused call leaves output, state and desk unchanged."
+unfoldable pub ran : ℕ → List ℕ → List ℕ → Answer Ended → Ran
+ran allowance work state (ok e) =
+    record {
+      answer = ok (record { end = e .end; steps = e .steps });
+      allowance = allowance - e .steps;
+      work = cleared run-room work;
+      state = begun (words (e .state)) state;
+    }
+ran allowance work state (refused r p) =
+    record { answer = refused r p; allowance = allowance; work = work; state = state }
+
+unfoldable pub run : List ℕ → ℕ → ℕ → List ℕ → List ℕ → Ran
+run term budget allowance work state = ran allowance work state (course term (min budget allowance) work state)
+
+-- A part lookup: where the part stands in the caller's own words. "For a list that is no closed term, and for a part that isn't
+-- there, it hands back an empty part", here at place 0.
+pub record Found : Type 0 where
+  pub start : ℕ
+  pub extent : ℕ
+
+abbrev pub absent : Found
+absent = record { start = 0; extent = 0 }
+
+unfoldable pub parts : Term → List Term
+parts (var i) = []
+parts star = []
+parts (app f u) = f ∷ u ∷ []
+parts (lam a e) = a ∷ e ∷ []
+parts (pi a b) = a ∷ b ∷ []
+parts (castup a e) = a ∷ e ∷ []
+parts (castdown e) = e ∷ []
+parts (mu a e) = a ∷ e ∷ []
+
+-- Part 1, 2, … of a list of parts of which the first stands at `place`.
+unfoldable pub nth-part : List Term → ℕ → ℕ → Found
+nth-part [] k place = absent
+nth-part (e ∷ es) zero place = absent
+nth-part (e ∷ es) (suc zero) place = record { start = place; extent = size e }
+nth-part (e ∷ es) (suc (suc k)) place = nth-part es (suc k) (place + size e)
+
+unfoldable pub found-in : ℕ → Answer Term → Found
+found-in k (ok t) = nth-part (parts t) k 1
+found-in k (refused r p) = absent
+
+unfoldable pub found : List ℕ → ℕ → Found
+found term k = found-in k (read term)
+
+unfoldable pub part : List ℕ → ℕ → List ℕ
+part term k = take (found term k .extent) (drop (found term k .start) term)

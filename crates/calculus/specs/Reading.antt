@@ -1,0 +1,116 @@
+-- Reading a list of words (document 01, Words and Calls): the one term that it is, or the first refusal and its place.
+use Prim.Native.Nat.{ℕ, suc, _+_, _-_}
+use mathlib.Core.Bool.{Bool, true, false, cond, _&&_}
+use mathlib.Core.List.{List, [], _∷_, _++_, map}
+use lib.Dec.{ltb, leb}
+use lib.ListN.{length, getD}
+use Rattle.calculus.specs.Term.{Term, var, star, app, lam, pi, castup, castdown, mu}
+use Rattle.calculus.specs.Words.{longest, deepest}
+use Rattle.calculus.specs.Answer.{Answer, ok, refused, _>>=_, _>>_, require, length-not-allowed, no-meaning, list-ends, words-after, level-65, unbound}
+
+-- What a word means.
+pub data Meaning : Type 0 where
+  a-star a-castdown an-app a-castup a-lam a-pi a-mu : Meaning
+  a-variable : ℕ → Meaning
+  nothing : Meaning
+
+-- Words 0–6 by document 01's table; "words 7–15 and above 2,047 mean nothing"; 16–2,047 are variables, "index = word − 16".
+unfoldable pub meaning : ℕ → Meaning
+meaning w =
+    cond
+    (ltb w 16)
+    (getD (a-star ∷ a-castdown ∷ an-app ∷ a-castup ∷ a-lam ∷ a-pi ∷ a-mu ∷ []) w nothing)
+    (cond (ltb w 2048) (a-variable (w - 16)) nothing)
+
+-- The parts that follow a node, in order: for each the number of variables that the node binds in it.
+unfoldable pub binds : Meaning → List ℕ
+binds a-star = []
+binds a-castdown = 0 ∷ []
+binds an-app = 0 ∷ 0 ∷ []
+binds a-castup = 0 ∷ 0 ∷ []
+binds a-lam = 0 ∷ 1 ∷ []
+binds a-pi = 0 ∷ 1 ∷ []
+binds a-mu = 0 ∷ 1 ∷ []
+binds (a-variable i) = []
+binds nothing = []
+
+-- A subterm still to come: how many levels it may have, and how many binders are around it.
+pub record Pending : Type 0 where
+  pub room : ℕ
+  pub binders : ℕ
+
+unfoldable pub means : Meaning → Bool
+means a-star = true
+means a-castdown = true
+means an-app = true
+means a-castup = true
+means a-lam = true
+means a-pi = true
+means a-mu = true
+means (a-variable i) = true
+means nothing = false
+
+-- A variable stands inside its binder.
+unfoldable pub bound : Meaning → ℕ → Bool
+bound a-star b = true
+bound a-castdown b = true
+bound an-app b = true
+bound a-castup b = true
+bound a-lam b = true
+bound a-pi b = true
+bound a-mu b = true
+bound (a-variable i) b = ltb i b
+bound nothing b = true
+
+-- "Words are read left to right, each tested in the order 5, 8, 9."
+unfoldable pub test : Meaning → Pending → ℕ → Answer (Unit {0})
+test m s p = do
+  require no-meaning p (means m)
+  require level-65 p (ltb 0 (s .room))
+  require unbound p (bound m (s .binders))
+
+-- The node made of the terms read after its word, before those that are not its parts.
+unfoldable pub node₁ : (Term → Term) → List Term → List Term
+node₁ c [] = []
+node₁ c (e ∷ ts) = c e ∷ ts
+
+unfoldable pub node₂ : (Term → Term → Term) → List Term → List Term
+node₂ c [] = []
+node₂ c (a ∷ []) = []
+node₂ c (a ∷ e ∷ ts) = c a e ∷ ts
+
+unfoldable pub node : Meaning → List Term → List Term
+node a-star ts = star ∷ ts
+node a-castdown ts = node₁ castdown ts
+node an-app ts = node₂ app ts
+node a-castup ts = node₂ castup ts
+node a-lam ts = node₂ lam ts
+node a-pi ts = node₂ pi ts
+node a-mu ts = node₂ mu ts
+node (a-variable i) ts = var i ∷ ts
+node nothing ts = ts
+
+unfoldable pub below : Pending → ℕ → Pending
+below s k = record { room = s .room - 1; binders = s .binders + k }
+
+-- One term for each subterm still to come, from the words at place `p` on. "List ends inside the term: length of the list. Words
+-- after the term: first word over." "A word after a complete term is 7, untested."
+unfoldable pub scan : List ℕ → List Pending → ℕ → Answer (List Term)
+scan [] [] p = ok []
+scan [] (s ∷ ss) p = refused list-ends p
+scan (w ∷ ws) [] p = refused words-after p
+scan (w ∷ ws) (s ∷ ss) p = do
+  test (meaning w) s p
+  ts ← scan ws (map (below s) (binds (meaning w)) ++ ss) (suc p)
+  ok (node (meaning w) ts)
+
+unfoldable pub the-first : List Term → Term
+the-first [] = star
+the-first (t ∷ ts) = t
+
+-- The whole list: "term of 0 or over 1,024 words" is refused first.
+unfoldable pub read : List ℕ → Answer Term
+read ws = do
+  require length-not-allowed 0 (leb 1 (length ws) && leb (length ws) longest)
+  ts ← scan ws (record { room = deepest; binders = 0 } ∷ []) 0
+  ok (the-first ts)

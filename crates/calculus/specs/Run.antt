@@ -1,0 +1,54 @@
+-- Runs (document 01, Calls): the states by the published relation, and a run as a function beside them, believed only through the
+-- theorem of demand 2.
+use Prim.Native.Nat.{ℕ, zero, suc, _<_}
+use mathlib.Core.Bool.{cond}
+use mathlib.Core.Path.{_≡_}
+use lib.Dec.{leb}
+use Rattle.calculus.specs.Term.{Term, size}
+use Rattle.calculus.specs.Words.{longest}
+use Rattle.calculus.specs.Rules.{_⟶_, CanStep, Value}
+use Rattle.calculus.specs.Step.{Next, value, stuck, next, step}
+
+-- "State 0 of a run is its term, and state k + 1 is the next state of state k by the one-step rules."
+pub data State (t : Term) : ℕ → Term → Type 0 where
+  state-zero : State t zero t
+  state-suc : {k : ℕ} {x y : Term} → State t k x → x ⟶ y → State t (suc k) y
+
+pub data End : Type 0 where
+  at-value spent at-stuck too-long : End
+
+-- Document 01's number of each end.
+unfoldable pub end-number : End → ℕ
+end-number at-value = 1
+end-number spent = 2
+end-number at-stuck = 3
+end-number too-long = 4
+
+-- `Ends g n x E`: after `n` of the `g` steps granted, at the state `x`, the run's end is E: the first that holds there.
+pub data Ends (g n : ℕ) (x : Term) : End → Type 0 where
+  ends-spent : n ≡ g → Ends g n x spent
+  ends-value : n < g → Value x → Ends g n x at-value
+  ends-stuck : n < g → ¬ Value x → ¬ CanStep x → Ends g n x at-stuck
+  ends-long : {y : Term} → n < g → x ⟶ y → longest < size y → Ends g n x too-long
+
+pub record Ended : Type 0 where
+  pub end : End
+  pub steps : ℕ
+  pub state : Term
+
+unfoldable pub stop : End → Term → Ended
+stop E x = record { end = E; steps = 0; state = x }
+
+unfoldable pub one-more : Ended → Ended
+one-more r = record { end = r .end; steps = suc (r .steps); state = r .state }
+
+-- "Ends, tested in this order before each step: 2 spent, steps equal the grant; 1 value; 3 stuck; 4 the next state is over 1,024
+-- words."
+unfoldable pub advance : (Term → Ended) → Term → Next → Ended
+advance go x value = stop at-value x
+advance go x stuck = stop at-stuck x
+advance go x (next y) = cond (leb (size y) longest) (one-more (go y)) (stop too-long x)
+
+unfoldable pub run-from : ℕ → Term → Ended
+run-from zero x = stop spent x
+run-from (suc g) x = advance (run-from g) x (step x)

@@ -1,0 +1,59 @@
+-- DEMAND 2 for runs: "A run's states and step count are those of the published one-step relation."
+use Prim.Native.Nat.{ℕ, _≤_, _<_, _-_, min}
+use mathlib.Core.List.{List}
+use mathlib.Core.Path.{_≡_}
+use mathlib.Core.Logic.{_↔_}
+use lib.ListN.{length}
+use Rattle.calculus.specs.Term.{Term, size}
+use Rattle.calculus.specs.Answer.{ok, refused, Reason, number, work-short, output-short}
+use Rattle.calculus.specs.Words.{words, Readable, longest}
+use Rattle.calculus.specs.Reading.{read}
+use Rattle.calculus.specs.Run.{State, End, Ends}
+use Rattle.calculus.specs.Outcomes.{run-room, begun, cleared, Ran, run}
+
+pub data Runs (ws : List ℕ) (budget allowance : ℕ) (W S : List ℕ) : Ran → Type 0 where
+  work-refused :
+      length W < run-room
+      → Runs ws budget allowance W S (record { answer = refused work-short 0; allowance = allowance; work = W; state = S })
+  state-refused :
+      run-room ≤ length W
+      → length S < longest
+      → Runs ws budget allowance W S (record { answer = refused output-short 0; allowance = allowance; work = W; state = S })
+  unread : {r : Reason} {p : ℕ}
+      → run-room ≤ length W
+      → longest ≤ length S
+      → read ws ≡ refused r p
+      → Runs ws budget allowance W S (record { answer = refused r p; allowance = allowance; work = W; state = S })
+  ended : {E : End} {n : ℕ} {t x : Term}
+      → run-room ≤ length W
+      → longest ≤ length S
+      → ws ≡ words t
+      → Readable t
+      → State t n x
+      → ((k : ℕ) (y : Term) → k ≤ n → State t k y → size y ≤ longest)
+      → n ≤ min budget allowance
+      → Ends (min budget allowance) n x E
+      → Runs
+      ws
+      budget
+      allowance
+      W
+      S
+      (record {
+        answer = ok (record { end = E; steps = n });
+        allowance = allowance - n;
+        work = cleared run-room W;
+        state = begun (words x) S;
+      })
+
+abbrev pub Demand2-run : Type 0
+Demand2-run =
+    (ws : List ℕ) (budget allowance : ℕ) (W S : List ℕ) (c : Ran)
+    → (run ws budget allowance W S ≡ c) ↔ Runs ws budget allowance W S c
+
+-- "A check refuses by 1–16, a run by 2–9."
+abbrev pub RunRefusals : Type 0
+RunRefusals =
+    (ws : List ℕ) (budget allowance : ℕ) (W S : List ℕ) (r : Reason) (p : ℕ)
+    → run ws budget allowance W S .answer ≡ refused r p
+    → (2 ≤ number r) × (number r ≤ 9)

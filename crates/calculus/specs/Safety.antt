@@ -1,0 +1,69 @@
+-- DEMAND 3 as one type over words, limits, budgets, desks and slices.
+use Prim.Native.Nat.{ℕ, _≤_, _<_, min}
+use mathlib.Core.List.{List, []}
+use mathlib.Core.Path.{_≡_}
+use mathlib.Core.Logic.{_↔_, _≢_, _⊎_}
+use lib.ListN.{length, take}
+use Rattle.calculus.specs.Term.{Term, star, lam, pi, castup, size}
+use Rattle.calculus.specs.Answer.{Answer, ok, refused, work-short, output-short}
+use Rattle.calculus.specs.Words.{words, Readable, longest}
+use Rattle.calculus.specs.Rules.{Context, _⟶_, CanStep, Value, _⊢_⦂_}
+use Rattle.calculus.specs.Run.{State, End, at-stuck, Ends}
+use Rattle.calculus.specs.Outcomes.{run-room, check, Ran, Stop, run}
+
+-- The one element that has a property.
+abbrev pub Only : (Term → Type 0) → Term → Type 0
+Only P x = P x × ((y : Term) → P y → y ≡ x)
+
+-- "Each of its states [...] has under the rules exactly the type that the check answered [...]. Each of them is a value or has
+-- exactly one next state, and never both."
+pub record Safe (τ x : Term) : Type 0 where
+  pub type : (σ : Term) → ([] ⊢ x ⦂ σ) ↔ (σ ≡ τ)
+  pub progress : (Value x × ¬ CanStep x) ⊎ (¬ Value x × ((y : Term) × Only (λ z. x ⟶ z) y))
+
+-- What a run answers that begins at `t`, whose type a check answered to be τ. "A refused run has no states and no end"; here it is
+-- refused only for a short slice. "So the run ends only at a value, with its grant used, or before a state over 1,024 words."
+pub data Safely (t τ : Term) (grant : ℕ) (W S : List ℕ) : Answer Stop → Type 0 where
+  work-refused : length W < run-room → Safely t τ grant W S (refused work-short 0)
+  state-refused : run-room ≤ length W → length S < longest → Safely t τ grant W S (refused output-short 0)
+  ended : {E : End} {n : ℕ} {x : Term}
+      → run-room ≤ length W
+      → longest ≤ length S
+      → State t n x
+      → Ends grant n x E
+      → E ≢ at-stuck
+      → ((k : ℕ) → k ≤ n → (y : Term) × Only (State t k) y × (size y ≤ longest) × Safe τ y)
+      → Safely t τ grant W S (ok (record { end = E; steps = n }))
+
+-- Demand 3 of one run `r`: for every check that accepts the words, at any allowed limit.
+abbrev pub SafeRun : List ℕ → ℕ → ℕ → List ℕ → List ℕ → Ran → Type 0
+SafeRun ws budget allowance W S r =
+    (L : ℕ) (W₁ O₁ : List ℕ) (n : ℕ)
+    → check ws L W₁ O₁ .answer ≡ ok n
+    → (t : Term)
+    × (τ : Term)
+    × Only (λ t′. (ws ≡ words t′) × Readable t′) t
+    × Only (λ τ′. words τ′ ≡ take n (check ws L W₁ O₁ .output)) τ
+    × Safely t τ (min budget allowance) W S (r .answer)
+
+-- "Of the values that the rules give a type, exactly star and the products have type star; exactly the abstractions have a product
+-- as their type; exactly the up casts have a type that can step."
+abbrev pub IsPi : Term → Type 0
+IsPi e = (a : Term) × (b : Term) × (e ≡ pi a b)
+
+abbrev pub IsLam : Term → Type 0
+IsLam e = (a : Term) × (b : Term) × (e ≡ lam a b)
+
+abbrev pub IsCastup : Term → Type 0
+IsCastup e = (a : Term) × (b : Term) × (e ≡ castup a b)
+
+pub record Canonical (v τ : Term) : Type 0 where
+  pub stars : (τ ≡ star) ↔ ((v ≡ star) ⊎ IsPi v)
+  pub products : IsPi τ ↔ IsLam v
+  pub stepping : CanStep τ ↔ IsCastup v
+
+abbrev pub Demand3 : Type 0
+Demand3 =
+    ((ws : List ℕ) (budget allowance : ℕ) (W S : List ℕ)
+    → SafeRun ws budget allowance W S (run ws budget allowance W S))
+    × ((Γ : Context) (v τ : Term) → Value v → Γ ⊢ v ⦂ τ → Canonical v τ)

@@ -1,0 +1,114 @@
+-- The starred terms of document 01 ("Terms at the edges"), in one table, with what each row claims, stated in the rules and in the
+-- outcomes for all long enough slices. Further rows use the rules that the starred terms leave out.
+use Prim.Native.Nat.{ℕ, _≤_, _-_, min}
+use mathlib.Core.List.{List, [], _∷_}
+use mathlib.Core.Path.{_≡_}
+use mathlib.Core.Logic.{_≢_}
+use lib.ListN.{length}
+use Rattle.calculus.specs.Term.{Term, size}
+use Rattle.calculus.specs.Answer.{ok, refused, Reason, not-star, not-product, wrong-argument, no-step, wrong-cast, wrong-recursion, over-limit}
+use Rattle.calculus.specs.Words.{words, Readable, longest}
+use Rattle.calculus.specs.Rules.{_⟶_, _⊢_⦂_}
+use Rattle.calculus.specs.Limit.{_⊢⟨_⟩_⦂_}
+use Rattle.calculus.specs.Failing.{Fails}
+use Rattle.calculus.specs.Run.{State, End, at-value, at-stuck, spent, Ends}
+use Rattle.calculus.specs.Outcomes.{check-room, run-room, begun, cleared, check, run}
+
+pub data Row : Type 0 where
+  -- words and limit; the type's words, or the reason and the place
+  types : List ℕ → ℕ → List ℕ → Row
+  refuses : List ℕ → ℕ → Reason → ℕ → Row
+  -- words and budget; the end, the steps and the last state's words
+  ends : List ℕ → ℕ → End → ℕ → List ℕ → Row
+  -- words of which "every run is spent, in the same state"
+  spins : List ℕ → Row
+
+unfoldable pub Claim : Row → Type 0
+Claim (types ws L out) =
+    (t : Term)
+    × (τ : Term)
+    × (ws ≡ words t)
+    × Readable t
+    × (out ≡ words τ)
+    × ([] ⊢⟨ L ⟩ t ⦂ τ)
+    × ((W O : List ℕ)
+    → check-room L ≤ length W
+    → L ≤ length O
+    → check ws L W O ≡ record { answer = ok (length out); work = cleared (check-room L) W; output = begun out O })
+Claim (refuses ws L r p) =
+    (t : Term)
+    × (ws ≡ words t)
+    × Readable t
+    × Fails L [] 0 t r p
+    × (r ≢ over-limit → (τ : Term) → [] ⊢ t ⦂ τ → ⊥)
+    × ((W O : List ℕ)
+    → check-room L ≤ length W
+    → L ≤ length O
+    → check ws L W O ≡ record { answer = refused r p; work = cleared (check-room L) W; output = O })
+Claim (ends ws budget E n out) =
+    (t : Term)
+    × (x : Term)
+    × (ws ≡ words t)
+    × Readable t
+    × (out ≡ words x)
+    × State t n x
+    × Ends budget n x E
+    × ((allowance : ℕ) (W S : List ℕ)
+    → budget ≤ allowance
+    → run-room ≤ length W
+    → longest ≤ length S
+    → run ws budget allowance W S
+    ≡ record {
+      answer = ok (record { end = E; steps = n });
+      allowance = allowance - n;
+      work = cleared run-room W;
+      state = begun out S;
+    })
+Claim (spins ws) =
+    (t : Term)
+    × (ws ≡ words t)
+    × Readable t
+    × (t ⟶ t)
+    × ((budget allowance : ℕ) (W S : List ℕ)
+    → run-room ≤ length W
+    → longest ≤ length S
+    → run ws budget allowance W S
+    ≡ record {
+      answer = ok (record { end = spent; steps = min budget allowance });
+      allowance = allowance - min budget allowance;
+      work = cleared run-room W;
+      state = begun ws S;
+    })
+
+unfoldable pub Claims : List Row → Type 0
+Claims [] = Unit
+Claims (r ∷ rs) = Claim r × Claims rs
+
+abbrev pub starred : List Row
+starred =
+    types (0 ∷ []) 64 (0 ∷ [])
+    ∷ refuses (1 ∷ 0 ∷ []) 64 no-step 0
+    ∷ refuses (2 ∷ 0 ∷ 0 ∷ []) 64 not-product 0
+    ∷ ends (2 ∷ 0 ∷ 0 ∷ []) 1 at-stuck 0 (2 ∷ 0 ∷ 0 ∷ [])
+    ∷ types (4 ∷ 0 ∷ 16 ∷ []) 64 (5 ∷ 0 ∷ 0 ∷ [])
+    ∷ types (6 ∷ 0 ∷ 16 ∷ []) 64 (0 ∷ [])
+    ∷ spins (6 ∷ 0 ∷ 16 ∷ [])
+    ∷ types (3 ∷ 2 ∷ 4 ∷ 0 ∷ 16 ∷ 0 ∷ 0 ∷ []) 64 (2 ∷ 4 ∷ 0 ∷ 16 ∷ 0 ∷ [])
+    ∷ refuses (3 ∷ 2 ∷ 4 ∷ 0 ∷ 16 ∷ 0 ∷ 4 ∷ 0 ∷ 16 ∷ []) 64 wrong-cast 0
+    ∷ refuses (3 ∷ 6 ∷ 0 ∷ 16 ∷ 0 ∷ []) 64 wrong-cast 0
+    ∷ types (4 ∷ 0 ∷ 4 ∷ 16 ∷ 16 ∷ []) 5 (5 ∷ 0 ∷ 5 ∷ 16 ∷ 17 ∷ [])
+    ∷ refuses (4 ∷ 0 ∷ 4 ∷ 16 ∷ 16 ∷ []) 4 over-limit 0
+    ∷ types (2 ∷ 4 ∷ 0 ∷ 4 ∷ 16 ∷ 16 ∷ 0 ∷ []) 64 (5 ∷ 0 ∷ 0 ∷ [])
+    ∷ refuses (2 ∷ 4 ∷ 0 ∷ 16 ∷ 4 ∷ 0 ∷ 16 ∷ []) 64 wrong-argument 0
+    ∷ refuses (6 ∷ 0 ∷ 4 ∷ 0 ∷ 16 ∷ []) 64 wrong-recursion 0
+    ∷ refuses (4 ∷ 4 ∷ 0 ∷ 16 ∷ 0 ∷ []) 64 not-star 1
+    -- T_CASTDOWN and S_CASTDOWNUP: the report program's example
+    ∷ types (1 ∷ 3 ∷ 2 ∷ 4 ∷ 0 ∷ 16 ∷ 0 ∷ 0 ∷ []) 32 (0 ∷ [])
+    ∷ ends (1 ∷ 3 ∷ 2 ∷ 4 ∷ 0 ∷ 16 ∷ 0 ∷ 0 ∷ []) 1000 at-value 1 (0 ∷ [])
+    -- S_APP, S_CASTDOWN and S_MU: a recursion under a down cast, applied
+    ∷ ends (2 ∷ 1 ∷ 6 ∷ 0 ∷ 16 ∷ 0 ∷ []) 3 spent 3 (2 ∷ 1 ∷ 6 ∷ 0 ∷ 16 ∷ 0 ∷ [])
+    ∷ []
+
+-- Every row of the table holds.
+abbrev pub StarredTerms : Type 0
+StarredTerms = Claims starred

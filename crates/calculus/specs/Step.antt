@@ -1,0 +1,45 @@
+-- One step as a function. Believed only through the theorem that it is the relation of `Rules`.
+use Rattle.calculus.specs.Term.{Term, var, star, app, lam, pi, castup, castdown, mu, substitute}
+
+pub data Next : Type 0 where
+  value : Next
+  stuck : Next
+  next : Term → Next
+
+-- The next state under a constructor `c`; where there is none, what the constructor itself does.
+unfoldable pub under : (Term → Term) → Next → Next → Next
+under c otherwise value = otherwise
+under c otherwise stuck = otherwise
+under c otherwise (next e) = next (c e)
+
+-- S_BETA, where the function is an abstraction.
+unfoldable pub applied : Term → Term → Next
+applied (var i) u = stuck
+applied star u = stuck
+applied (app f x) u = stuck
+applied (lam a e) u = next (substitute 0 u e)
+applied (pi a b) u = stuck
+applied (castup a e) u = stuck
+applied (castdown e) u = stuck
+applied (mu a e) u = stuck
+
+-- S_CASTDOWNUP, where the body is an up cast.
+unfoldable pub cancelled : Term → Next
+cancelled (var i) = stuck
+cancelled star = stuck
+cancelled (app f u) = stuck
+cancelled (lam a e) = stuck
+cancelled (pi a b) = stuck
+cancelled (castup a e) = next e
+cancelled (castdown e) = stuck
+cancelled (mu a e) = stuck
+
+unfoldable pub step : Term → Next
+step (var i) = stuck
+step star = value
+step (app f u) = under (λ f′. app f′ u) (applied f u) (step f)
+step (lam a e) = value
+step (pi a b) = value
+step (castup a e) = value
+step (castdown e) = under castdown (cancelled e) (step e)
+step (mu a e) = next (substitute 0 (mu a e) e)

@@ -1,0 +1,1 @@
+// No function: this crate holds the definitions in specs/ and the theorems in proofs/.
