@@ -1,5 +1,5 @@
--- Steps: at most one from each term, none from a value, the same under every substitution, and just those that `step` finds. Each
--- by induction on the step or the term, since no two rules of reduction have one left side.
+-- Steps (document 002, Lemma B.6): at most one from each term, none from a value, the same under every substitution, and just those
+-- that `step` finds. Each by induction on the step or the term, since no two rules of reduction have one left side.
 use Prim.Native.Nat.{ℕ}
 use mathlib.Core.Path.{_≡_, refl, ap, subst}
 use Rattle.calculus.specs.Term.{Term, var, star, app, lam, pi, castup, castdown, mu}

@@ -1,0 +1,78 @@
+-- The words and what they mean: the word `16 + i` means the variable `i` as long as `i` is below 2,032, and a word that means
+-- something is the word of its meaning, so that no two words mean the same.
+use Prim.Native.Nat.{ℕ, zero, suc, _+_, _-_, _<_}
+use mathlib.Core.Bool.{Bool, true, false, cond}
+use mathlib.Core.List.{List, [], _∷_}
+use mathlib.Core.Path.{_≡_, refl, sym, _∙_}
+use native.Mathlib.Nat.{add-sub-cancel-left, add-sub-of-le, add-zero, zero-add}
+use native.Mathlib.Omega.{arith}
+use lib.Dec.{T, ltb, nltb→le}
+use lib.ListN.{getD}
+use Rattle.calculus.specs.Reading.{Meaning, a-star, a-castdown, an-app, a-castup, a-lam, a-pi, a-mu, a-variable, nothing, meaning, means}
+use Rattle.calculus.proofs.Tests.{le-leb, gt-leb}
+
+-- Document 01's table, from meanings to words; of the words that mean nothing, the least.
+unfoldable pub word : Meaning → ℕ
+word a-star = 0
+word a-castdown = 1
+word an-app = 2
+word a-castup = 3
+word a-lam = 4
+word a-pi = 5
+word a-mu = 6
+word (a-variable i) = 16 + i
+word nothing = 7
+
+-- The index of a variable is one that has a word.
+unfoldable pub Indexed : Meaning → Type 0
+Indexed a-star = Unit
+Indexed a-castdown = Unit
+Indexed an-app = Unit
+Indexed a-castup = Unit
+Indexed a-lam = Unit
+Indexed a-pi = Unit
+Indexed a-mu = Unit
+Indexed (a-variable i) = i < 2032
+Indexed nothing = Unit
+
+pub meaning-word : (m : Meaning) → Indexed m → meaning (word m) ≡ m
+unfolding meaning word Indexed
+meaning-word a-star h = refl
+meaning-word a-castdown h = refl
+meaning-word an-app h = refl
+meaning-word a-castup h = refl
+meaning-word a-lam h = refl
+meaning-word a-pi h = refl
+meaning-word a-mu h = refl
+meaning-word (a-variable i) h =
+    rw (gt-leb (suc (16 + i)) 16 (omega arith), le-leb (suc (16 + i)) 2048 (omega arith), add-sub-cancel-left 16 i) refl
+meaning-word nothing h = refl
+
+-- The word of each member of `ms` is its place, counted from `n`.
+In-order : ℕ → List Meaning → Type 0
+In-order n [] = Unit
+In-order n (m ∷ ms) = (word m ≡ n) × In-order (suc n) ms
+
+in-order : (n : ℕ) (ms : List Meaning) (w : ℕ)
+    → In-order n ms
+    → T (means (getD ms w nothing))
+    → word (getD ms w nothing) ≡ n + w
+unfolding In-order means
+in-order n [] w h t = elim t [ ]
+in-order n (m ∷ ms) zero h t = h .0 ∙ sym (add-zero n)
+in-order n (m ∷ ms) (suc w) h t = in-order (suc n) ms w (h .1) t ∙ omega arith
+
+pub word-meaning : (w : ℕ) → T (means (meaning w)) → word (meaning w) ≡ w
+unfolding meaning means word In-order
+word-meaning w = go (ltb w 16) (ltb w 2048) refl
+  where
+    table : List Meaning
+    table = a-star ∷ a-castdown ∷ an-app ∷ a-castup ∷ a-lam ∷ a-pi ∷ a-mu ∷ []
+
+    m : Bool → Bool → Meaning
+    m b c = cond b (getD table w nothing) (cond c (a-variable (w - 16)) nothing)
+
+    go : (b c : Bool) → ltb w 16 ≡ b → T (means (m b c)) → word (m b c) ≡ w
+    go true c e t = in-order 0 table w (refl, (refl, (refl, (refl, (refl, (refl, (refl, tt))))))) t ∙ zero-add w
+    go false true e t = add-sub-of-le (nltb→le w 16 (rw e tt))
+    go false false e t = elim t [ ]

@@ -1,0 +1,59 @@
+-- Reading gives a term exactly for the words of a readable term, and then that term. The words of a readable term pass the test of
+-- their length and are scanned back; conversely an accepted scan for one closed term of 64 levels is the words of just one such.
+use Prim.Native.Nat.{ℕ, _≤_}
+use mathlib.Core.Bool.{Bool, true, false, _&&_}
+use mathlib.Core.List.{List, [], _∷_}
+use mathlib.Core.Logic.{_↔_}
+use mathlib.Core.Path.{_≡_, refl, ap, _∙_, subst}
+use native.Mathlib.Omega.{arith}
+use lib.Dec.{T, leb, leb→le, lit≤}
+use lib.ListN.{length}
+use Rattle.calculus.specs.Term.{Term, size}
+use Rattle.calculus.specs.Words.{words, Readable, longest, deepest}
+use Rattle.calculus.specs.Answer.{Reason, ok, refused, _>>=_, _>>_, require, number, length-not-allowed}
+use Rattle.calculus.specs.Reading.{Pending, scan, the-first, read}
+use Rattle.calculus.proofs.Tests.{le-leb}
+use Rattle.calculus.proofs.Coding.{size-positive, words-length}
+use Rattle.calculus.proofs.Says.{Says, says-ok, says-bind, says-then, says-require, of-ok, of-refused}
+use Rattle.calculus.proofs.ScanSound.{Fit, fit-none, fit-one, emits, No-term, scan-says}
+use Rattle.calculus.proofs.ScanWords.{Reads, scan-term}
+
+-- What a whole list is read as: a closed term of at most 64 levels.
+abbrev whole : Pending
+whole = record { room = deepest; binders = 0 }
+
+pub read-words : (t : Term) → Readable t → read (words t) ≡ ok t
+unfolding read words require _>>=_ _>>_ scan the-first
+read-words t r = rw (words-length t, le-leb 1 (size t) (size-positive t), le-leb (size t) longest (r .short), scanned [] [] 0) refl
+  where
+    scanned : Reads whole t
+    scanned = scan-term t whole (record { scoped = r .closed; within = r .shallow }) (omega (arith, r .shallow))
+
+second-test : (a b : Bool) → T (a && b) → T b
+second-test true b h = h
+second-test false b h = elim h [ ]
+
+one-term : (ws : List ℕ) (ts : List Term)
+    → length ws ≤ longest
+    → ws ≡ emits ts
+    → Fit (whole ∷ []) ts
+    → (ws ≡ words (the-first ts)) × Readable (the-first ts)
+unfolding emits words the-first
+one-term ws ts short e (fit-one {t = t} h fit-none) =
+    (e, record { closed = h .scoped; short = subst (λ n. n ≤ longest) (ap length e ∙ words-length t) short; shallow = h .within })
+
+read-says : (ws : List ℕ) → Says (λ t. (ws ≡ words t) × Readable t) No-term (read ws)
+unfolding read number
+read-says ws =
+    says-then (says-require length-not-allowed 0 (leb 1 (length ws) && leb (length ws) longest) (lit≤ tt, lit≤ tt)) λ _ sized.
+    says-bind (scan-says ws (whole ∷ []) 0) λ ts h.
+    says-ok (one-term ws ts (leb→le (length ws) longest (second-test (leb 1 (length ws)) (leb (length ws) longest) sized)) (h .0) (h .1))
+
+pub read-sound : (ws : List ℕ) (t : Term) → read ws ≡ ok t → (ws ≡ words t) × Readable t
+read-sound ws t e = of-ok (rw e at (read-says ws))
+
+pub read-reason : (ws : List ℕ) (r : Reason) (p : ℕ) → read ws ≡ refused r p → (4 ≤ number r) × (number r ≤ 9)
+read-reason ws r p e = of-refused (rw e at (read-says ws))
+
+pub read-exactly : (ws : List ℕ) (t : Term) → (read ws ≡ ok t) ↔ ((ws ≡ words t) × Readable t)
+read-exactly ws t = (read-sound ws t, λ h. ap read (h .0) ∙ read-words t (h .1))

@@ -1,0 +1,64 @@
+-- What the pieces of inference answer: each test passes where the rules pass and refuses, by its own reason and at its own place,
+-- where they do not. Each is its definition, computed at what the test decides.
+use Prim.Native.Nat.{ℕ, _≤_, _<_}
+use mathlib.Core.Bool.{true, false, decide, decide-iff}
+use mathlib.Core.Logic.{_≢_}
+use mathlib.Core.Path.{_≡_, refl, ap}
+use native.Mathlib.Decide.{ℕ-discrete}
+use Rattle.calculus.specs.Term.{Term, Term-discrete, var, star, app, lam, pi, castup, castdown, mu, size, raise}
+use Rattle.calculus.specs.Answer.{ok, refused, _>>=_, _>>_, require, not-product, no-step, over-limit}
+use Rattle.calculus.specs.Rules.{Context, _⟶_, CanStep, _∋_⦂_, here, there}
+use Rattle.calculus.specs.Step.{Next, step}
+use Rattle.calculus.specs.Infer.{annotation, same, measure, product, stepped}
+use Rattle.calculus.proofs.Tests.{le-leb, gt-leb}
+use Rattle.calculus.proofs.Reduction.{step-next, Says, says-value, says-stuck, says-next, step-says}
+
+decide-no : {P : Type 0} (d : Dec P) → ¬ P → decide d ≡ false
+unfolding decide
+decide-no (yes x) n = absurd (n x)
+decide-no (no _) n = refl
+
+pub equal : (τ : Term) → same τ τ ≡ true
+unfolding same
+equal τ = decide-iff (Term-discrete ℕ-discrete τ τ) .1 refl
+
+pub unequal : {σ τ : Term} → σ ≢ τ → same σ τ ≡ false
+unfolding same
+unequal {σ} {τ} n = decide-no (Term-discrete ℕ-discrete σ τ) n
+
+pub fitting : {L : ℕ} (p : ℕ) (τ : Term) → size τ ≤ L → measure L p τ ≡ ok τ
+unfolding measure _>>_ _>>=_ require
+fitting {L} p τ h = rw (le-leb (size τ) L h) refl
+
+pub over : {L : ℕ} (p : ℕ) (τ : Term) → L < size τ → measure L p τ ≡ refused over-limit p
+unfolding measure _>>_ _>>=_ require
+over {L} p τ h = rw (gt-leb (size τ) L h) refl
+
+pub no-product : (p : ℕ) {τ : Term} → ((a b : Term) → τ ≢ pi a b) → product p τ ≡ refused not-product p
+unfolding product
+no-product p {τ = var i} n = refl
+no-product p {τ = star} n = refl
+no-product p {τ = app f u} n = refl
+no-product p {τ = lam a e} n = refl
+no-product p {τ = pi a b} n = absurd (n a b refl)
+no-product p {τ = castup a e} n = refl
+no-product p {τ = castdown e} n = refl
+no-product p {τ = mu a e} n = refl
+
+pub steps : (p : ℕ) {τ τ′ : Term} → τ ⟶ τ′ → stepped p (step τ) ≡ ok τ′
+unfolding stepped
+steps p s = ap (stepped p) (step-next s)
+
+pub rests : (p : ℕ) {τ : Term} → ¬ CanStep τ → stepped p (step τ) ≡ refused no-step p
+unfolding stepped
+rests p {τ} n = at (step-says τ)
+  where
+    at : {x : Next} → Says τ x → stepped p x ≡ refused no-step p
+    at (says-value v) = refl
+    at (says-stuck _ _) = refl
+    at (says-next s) = absurd (n (_, s))
+
+pub annotation-of : {Γ : Context} {i : ℕ} {τ : Term} → Γ ∋ i ⦂ τ → annotation Γ i ≡ τ
+unfolding annotation
+annotation-of here = refl
+annotation-of (there v) = ap (raise 1 0) (annotation-of v)
