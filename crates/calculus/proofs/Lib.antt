@@ -19,3 +19,10 @@ pub mod Within
 pub mod Testing
 pub mod Completeness
 pub mod Inference
+pub mod NumberInjective
+pub mod Courses
+pub mod CheckDemand
+pub mod RunDemand
+pub mod SafetyDemand
+pub mod PartLaw
+pub mod Table

@@ -4,9 +4,10 @@ use Prim.Native.Nat.{ℕ}
 use native.Mathlib.Omega.{arith}
 use mathlib.Core.List.{[], _∷_}
 use mathlib.Core.Path.{_≡_, refl}
-use mathlib.Core.Logic.{_⊎_, inl, inr, _↔_}
-use Rattle.calculus.specs.Term.{Term, star, app, lam, pi, castup, castdown, mu, substitute}
+use mathlib.Core.Logic.{_⊎_, inl, inr}
+use Rattle.calculus.specs.Term.{Term, app, lam, pi, castup, castdown, mu, substitute}
 use Rattle.calculus.specs.Rules.{Context, _⟶_, s-beta, s-castdownup, s-app, s-castdown, s-mu, CanStep, Value, v-star, v-lam, v-pi, v-castup, _⊢_⦂_, t-ax, t-var, t-app, t-lam, t-pi, t-castup, t-castdown, t-mu}
+use Rattle.calculus.specs.Safety.{Canonical}
 use Rattle.calculus.proofs.Bridge.{substitute-raise}
 use Rattle.calculus.proofs.Reduction.{determinism, value-rests}
 use Rattle.calculus.proofs.Substitution.{substitution}
@@ -42,57 +43,46 @@ preservation (t-castdown e a s) s-castdownup = castdownup-typed e s
 preservation (t-castdown e a s) (s-castdown h) = t-castdown (preservation e h) a s
 preservation (t-mu e a) s-mu = rw substitute-raise at (substitution e (t-mu e a))
 
-abbrev pub IsStar : Term → Type 0
-IsStar v = v ≡ star
-
-abbrev pub IsPi : Term → Type 0
-IsPi v = (a : Term) × (b : Term) × (v ≡ pi a b)
-
-abbrev pub IsLam : Term → Type 0
-IsLam v = (a : Term) × (e : Term) × (v ≡ lam a e)
-
-abbrev pub IsCastup : Term → Type 0
-IsCastup v = (a : Term) × (e : Term) × (v ≡ castup a e)
-
 -- Two constructors are never equal: from such an equation `cc` gets this one.
 clash : {A : Type 0} → _≡_ {A = ℕ} 0 1 → A
 clash p = absurd (omega arith)
 
-pub canonical : {Γ : Context} {v τ : Term}
-    → Value v
-    → Γ ⊢ v ⦂ τ
-    → ((τ ≡ star) ↔ (IsStar v ⊎ IsPi v)) × (IsPi τ ↔ IsLam v) × (CanStep τ ↔ IsCastup v)
-canonical v-star (t-ax w) = (
-  (λ p. inl refl, λ s. refl),
-  (λ p. clash (cc (p .2)), λ l. clash (cc (l .2))),
-  (λ s. absurd (value-rests v-star (s .1)), λ c. clash (cc (c .2))),
-)
-canonical v-pi (t-pi {τ₁ = a} {τ₂ = b} d e) = (
-  (λ p. inr (a, b, refl), λ s. refl),
-  (λ p. clash (cc (p .2)), λ l. clash (cc (l .2))),
-  (λ s. absurd (value-rests v-star (s .1)), λ c. clash (cc (c .2))),
-)
-canonical v-lam (t-lam {e = e} {τ₁ = a} {τ₂ = b} d q) = (
-  (λ p. clash (cc p), λ s. elim s [ inl p ↦ clash (cc p) | inr p ↦ clash (cc (p .2)) ]),
-  (λ p. (a, e, refl), λ l. (a, b, refl)),
-  (λ s. absurd (value-rests v-pi (s .1)), λ c. clash (cc (c .2))),
-)
-canonical v-castup (t-castup {e = e} {τ₁ = a} {τ₂ = b} d q r) = (
-  (λ p. absurd (value-rests v-star (rw p at r)), λ s. elim s [ inl p ↦ clash (cc p) | inr p ↦ clash (cc (p .2)) ]),
-  (λ p. absurd (value-rests v-pi (rw (p .2) at r)), λ l. clash (cc (l .2))),
-  (λ s. (a, e, refl), λ c. (b, r)),
-)
+pub canonical : {Γ : Context} {v τ : Term} → Value v → Γ ⊢ v ⦂ τ → Canonical v τ
+canonical v-star (t-ax w) =
+    record {
+      stars = (λ p. inl refl, λ s. refl);
+      products = (λ p. clash (cc (p .2)), λ l. clash (cc (l .2)));
+      stepping = (λ s. absurd (value-rests v-star (s .1)), λ c. clash (cc (c .2)));
+    }
+canonical v-pi (t-pi {τ₁ = a} {τ₂ = b} d e) =
+    record {
+      stars = (λ p. inr (a, b, refl), λ s. refl);
+      products = (λ p. clash (cc (p .2)), λ l. clash (cc (l .2)));
+      stepping = (λ s. absurd (value-rests v-star (s .1)), λ c. clash (cc (c .2)));
+    }
+canonical v-lam (t-lam {e = e} {τ₁ = a} {τ₂ = b} d q) =
+    record {
+      stars = (λ p. clash (cc p), λ s. elim s [ inl p ↦ clash (cc p) | inr p ↦ clash (cc (p .2)) ]);
+      products = (λ p. (a, e, refl), λ l. (a, b, refl));
+      stepping = (λ s. absurd (value-rests v-pi (s .1)), λ c. clash (cc (c .2)));
+    }
+canonical v-castup (t-castup {e = e} {τ₁ = a} {τ₂ = b} d q r) =
+    record {
+      stars = (λ p. absurd (value-rests v-star (rw p at r)), λ s. elim s [ inl p ↦ clash (cc p) | inr p ↦ clash (cc (p .2)) ]);
+      products = (λ p. absurd (value-rests v-pi (rw (p .2) at r)), λ l. clash (cc (l .2)));
+      stepping = (λ s. (a, e, refl), λ c. (b, r));
+    }
 
 -- The part of an application or a down cast that is a value is, by its type, of the form that a rule takes.
 app-progress : {Γ : Context} {f u a b : Term} → Γ ⊢ f ⦂ pi a b → Value f ⊎ CanStep f → CanStep (app f u)
 app-progress {u = u} {a} {b} h (inl v) =
-    let (c, e, p) = canonical v h .1 .0 (a, b, refl) in
+    let (c, e, p) = canonical v h .products .0 (a, b, refl) in
     rw p (substitute 0 u e, s-beta)
 app-progress {u = u} h (inr (x, s)) = (app x u, s-app s)
 
 castdown-progress : {Γ : Context} {e σ τ : Term} → Γ ⊢ e ⦂ σ → σ ⟶ τ → Value e ⊎ CanStep e → CanStep (castdown e)
 castdown-progress {τ = τ} h r (inl v) =
-    let (a, x, p) = canonical v h .2 .0 (τ, r) in
+    let (a, x, p) = canonical v h .stepping .0 (τ, r) in
     rw p (x, s-castdownup)
 castdown-progress h r (inr (x, s)) = (castdown x, s-castdown s)
 

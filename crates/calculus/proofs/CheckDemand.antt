@@ -1,0 +1,181 @@
+-- Demand 2 for checks. Whatever `Checks` says is what `check` answers, by computing through the tests in their order; and `Checks`
+-- says something of every call, since each of its tests is decided. So what `check` answers is what `Checks` says.
+use Prim.Native.Nat.{ℕ, _≤_}
+use mathlib.Core.Bool.{false, true≢false, _&&_}
+use mathlib.Core.List.{List, []}
+use mathlib.Core.Logic.{_⊎_, inl, inr, Dec·and}
+use mathlib.Core.Path.{_≡_, refl, sym, ap, _∙_, subst}
+use native.Mathlib.Decide.{decLe}
+use native.Mathlib.Omega.{arith}
+use lib.Dec.{leb, lit≤}
+use lib.ListN.{length, take, drop}
+use lib.Seq.{take-at}
+use Rattle.calculus.specs.Term.{Term, size}
+use Rattle.calculus.specs.Answer.{Reason, Answer, ok, refused, _>>=_, _>>_, require, number}
+use Rattle.calculus.specs.Words.{words, Readable}
+use Rattle.calculus.specs.Reading.{read}
+use Rattle.calculus.specs.Rules.{_⊢_⦂_, env-empty}
+use Rattle.calculus.specs.Limit.{_⊢⟨_⟩_⦂_}
+use Rattle.calculus.specs.Failing.{Fails}
+use Rattle.calculus.specs.Infer.{infer}
+use Rattle.calculus.specs.Outcomes.{largest-limit, check-room, begun, Checked, verdict, checked, check}
+use Rattle.calculus.specs.Checks.{Coding, PrefixFree, Allowed, Checks, limit-refused, work-refused, output-refused, unread, untyped, typed, Demand2-check, TypedOrFails, Untypable, SameType, CheckRefusals}
+use Rattle.calculus.proofs.Tests.{le-leb, gt-leb}
+use Rattle.calculus.proofs.Coding.{words-length, words-injective, prefix-free}
+use Rattle.calculus.proofs.Types.{uniqueness}
+use Rattle.calculus.proofs.ReadBack.{read-sound, read-exactly, read-reason}
+use Rattle.calculus.proofs.Completeness.{infer-complete, refused-complete, not-both}
+use Rattle.calculus.proofs.Refusals.{untyped as no-type, fails-reason}
+use Rattle.calculus.proofs.Inference.{one-of-two}
+
+pub coding : Coding
+coding = read-exactly
+
+pub words-prefix-free : PrefixFree
+words-prefix-free = prefix-free
+
+module _ (ws : List ℕ) (L : ℕ) (W O : List ℕ) where
+  not-allowed : ¬ Allowed L → (leb 1 L && leb L largest-limit) ≡ false
+  not-allowed n = on (decLe 1 L) (decLe L largest-limit)
+    where
+      on : Dec (1 ≤ L) → Dec (L ≤ largest-limit) → (leb 1 L && leb L largest-limit) ≡ false
+      on (no f) d = rw (gt-leb 1 L (omega arith)) refl
+      on (yes h) (no f) = rw (le-leb 1 L h, gt-leb L largest-limit (omega arith)) refl
+      on (yes h) (yes k) = absurd (n (h, k))
+
+  -- Past the three tests of the call, the verdict is of the words alone.
+  admitted : Allowed L → check-room L ≤ length W → L ≤ length O → verdict ws L W O ≡ (read ws >>= λ t. infer L [] 0 t)
+  unfolding verdict require _>>_ _>>=_
+  admitted (h, k) w o = rw (le-leb 1 L h, le-leb L largest-limit k, le-leb (check-room L) (length W) w, le-leb L (length O) o) refl
+
+  pub check-answer : {c : Checked} → Checks ws L W O c → check ws L W O ≡ c
+  unfolding check checked verdict require _>>_ _>>=_ number
+  check-answer (limit-refused n) = rw (not-allowed n) refl
+  check-answer (work-refused (h, k) w) = rw (le-leb 1 L h, le-leb L largest-limit k, gt-leb (check-room L) (length W) w) refl
+  check-answer (output-refused (h, k) w o) =
+      rw (le-leb 1 L h, le-leb L largest-limit k, le-leb (check-room L) (length W) w, gt-leb L (length O) o) refl
+  check-answer (unread {r} {p} a w o e) = rw (admitted a w o, e, le-leb (number r) 9 (read-reason ws r p e .1)) refl
+  check-answer (untyped {r} {p} {t} a w o e c f) =
+      rw
+      (admitted a w o, read-exactly ws t .1 (e, c), refused-complete f, gt-leb (number r) 9 (fails-reason f .0))
+      refl
+  check-answer (typed {t} a w o e c d) = rw (admitted a w o, read-exactly ws t .1 (e, c), infer-complete 0 d) refl
+
+  -- One of the cases holds.
+  abbrev Outcome : Type 0
+  Outcome = (c : Checked) × Checks ws L W O c
+
+  outcome : Outcome
+  outcome = by-limit (Dec·and (decLe 1 L) (decLe L largest-limit))
+    where
+      by-rules : {t : Term}
+          → Allowed L
+          → check-room L ≤ length W
+          → L ≤ length O
+          → ws ≡ words t
+          → Readable t
+          → ((τ : Term) × ([] ⊢⟨ L ⟩ t ⦂ τ)) ⊎ ((r : Reason) × (p : ℕ) × Fails L [] 0 t r p)
+          → Outcome
+      by-rules a w o h c (inl (τ, d)) = (_, typed a w o h c d)
+      by-rules a w o h c (inr (r, p, f)) = (_, untyped a w o h c f)
+
+      by-reading : Allowed L → check-room L ≤ length W → L ≤ length O → (x : Answer Term) → read ws ≡ x → Outcome
+      by-reading a w o (ok t) e =
+          let (h, c) = read-sound ws t e in
+          by-rules a w o h c (one-of-two L 0 t env-empty (c .closed))
+      by-reading a w o (refused r p) e = (_, unread a w o e)
+
+      by-output : Allowed L → check-room L ≤ length W → Dec (L ≤ length O) → Outcome
+      by-output a w (yes o) = by-reading a w o (read ws) refl
+      by-output a w (no o) = (_, output-refused a w (omega arith))
+
+      by-work : Allowed L → Dec (check-room L ≤ length W) → Outcome
+      by-work a (yes w) = by-output a w (decLe L (length O))
+      by-work a (no w) = (_, work-refused a (omega arith))
+
+      by-limit : Dec (Allowed L) → Outcome
+      by-limit (yes a) = by-work a (decLe (check-room L) (length W))
+      by-limit (no n) = (_, limit-refused n)
+
+  pub check-checks : Checks ws L W O (check ws L W O)
+  check-checks = subst (Checks ws L W O) (sym (check-answer (outcome .1))) (outcome .1)
+
+pub demand2-check : Demand2-check
+demand2-check ws L W O c = (λ e. subst (Checks ws L W O) e (check-checks ws L W O), check-answer ws L W O)
+
+pub typed-or-fails : TypedOrFails
+typed-or-fails L t c = (one-of-two L 0 t env-empty (c .closed), λ r p τ f d. not-both d f)
+
+pub untypable : Untypable
+untypable L t τ r p f n d = no-type f n d
+
+-- What an accepted call says: the words are those of a readable term, and the output begins with the words of its type.
+pub record Accepted (ws : List ℕ) (L : ℕ) (n : ℕ) (output : List ℕ) (t τ : Term) : Type 0 where
+  pub coded : ws ≡ words t
+  pub readable : Readable t
+  pub typing : [] ⊢⟨ L ⟩ t ⦂ τ
+  pub extent : n ≡ size τ
+  pub front : take n output ≡ words τ
+
+front-of-begun : (τ : Term) (O : List ℕ) → take (size τ) (begun (words τ) O) ≡ words τ
+unfolding begun
+front-of-begun τ O = take-at (words τ) (drop (length (words τ)) O) (size τ) (words-length τ)
+
+accepted-as : {ws : List ℕ} {L : ℕ} {W O : List ℕ} {n : ℕ} {c : Checked}
+    → Checks ws L W O c
+    → c .answer ≡ ok n
+    → (t : Term) × (τ : Term) × Accepted ws L n (c .output) t τ
+accepted-as (limit-refused n) e = absurd (true≢false (cc e))
+accepted-as (work-refused a w) e = absurd (true≢false (cc e))
+accepted-as (output-refused a w o) e = absurd (true≢false (cc e))
+accepted-as (unread a w o r) e = absurd (true≢false (cc e))
+accepted-as (untyped a w o h c f) e = absurd (true≢false (cc e))
+accepted-as {O} {n} (typed {t} {τ} a w o h c d) e =
+    let extent : n ≡ size τ = cc e in (
+      t,
+      τ,
+      record {
+        coded = h;
+        readable = c;
+        typing = d;
+        extent = extent;
+        front = ap (λ k. take k (begun (words τ) O)) extent ∙ front-of-begun τ O;
+      },
+    )
+
+pub accepted : (ws : List ℕ) (L : ℕ) (W O : List ℕ) (n : ℕ)
+    → check ws L W O .answer ≡ ok n
+    → (t : Term) × (τ : Term) × Accepted ws L n (check ws L W O .output) t τ
+accepted ws L W O n e = accepted-as (check-checks ws L W O) e
+
+agree : {ws : List ℕ} {L L′ n n′ : ℕ} {O O′ : List ℕ} {t t′ τ τ′ : Term}
+    → Accepted ws L n O t τ
+    → Accepted ws L′ n′ O′ t′ τ′
+    → (n ≡ n′) × (take n O ≡ take n′ O′)
+agree {t} {t′} {τ} {τ′} a b = (a .extent ∙ ap size same ∙ sym (b .extent), a .front ∙ ap words same ∙ sym (b .front))
+  where
+    one : t′ ≡ t
+    one = words-injective t′ t (sym (b .coded) ∙ a .coded)
+
+    same : τ ≡ τ′
+    same = uniqueness (a .typing .typed) (subst (λ x. [] ⊢ x ⦂ τ′) one (b .typing .typed))
+
+pub same-type : SameType
+same-type ws L L′ W W′ O O′ n n′ e e′ = agree (accepted ws L W O n e .2) (accepted ws L′ W′ O′ n′ e′ .2)
+
+-- A refusal by a reason with a number from m to n; an answer is none.
+abbrev pub RefusedBy : {A : Type 0} → ℕ → ℕ → Answer A → Type 0
+RefusedBy m n (ok a) = Unit
+RefusedBy m n (refused r p) = (m ≤ number r) × (number r ≤ n)
+
+refused-by : {ws : List ℕ} {L : ℕ} {W O : List ℕ} {c : Checked} → Checks ws L W O c → RefusedBy 1 16 (c .answer)
+unfolding number
+refused-by (limit-refused n) = (lit≤ tt, lit≤ tt)
+refused-by (work-refused a w) = (lit≤ tt, lit≤ tt)
+refused-by (output-refused a w o) = (lit≤ tt, lit≤ tt)
+refused-by {ws} (unread {r} {p} a w o e) = let (l, u) = read-reason ws r p e in omega arith
+refused-by (untyped a w o h c f) = let (l, u) = fails-reason f in omega arith
+refused-by (typed a w o h c d) = tt
+
+pub check-refusals : CheckRefusals
+check-refusals ws L W O r p e = subst (RefusedBy 1 16) e (refused-by (check-checks ws L W O))

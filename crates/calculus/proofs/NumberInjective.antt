@@ -1,0 +1,68 @@
+-- The numbers of reasons and of ends tell them apart: each is found again at the place of its number in the list of all.
+use mathlib.Core.List.{List, [], _∷_}
+use mathlib.Core.Path.{_≡_, refl, sym, ap, _∙_}
+use lib.ListN.{getD}
+use Rattle.calculus.specs.Answer.{Reason, limit-not-allowed, work-short, output-short, length-not-allowed, no-meaning, list-ends, words-after, level-65, unbound, not-star, not-product, wrong-argument, no-step, wrong-cast, wrong-recursion, over-limit, number}
+use Rattle.calculus.specs.Run.{End, at-value, spent, at-stuck, too-long, end-number}
+
+-- A function that another undoes is injective.
+undone : {A B : Type 0} (f : A → B) (g : B → A) → ((a : A) → g (f a) ≡ a) → (a b : A) → f a ≡ f b → a ≡ b
+undone f g h a b e = sym (h a) ∙ ap g e ∙ h b
+
+-- The reasons from number 0 on; no reason has the number 0.
+reasons : List Reason
+reasons =
+    limit-not-allowed
+    ∷ limit-not-allowed
+    ∷ work-short
+    ∷ output-short
+    ∷ length-not-allowed
+    ∷ no-meaning
+    ∷ list-ends
+    ∷ words-after
+    ∷ level-65
+    ∷ unbound
+    ∷ not-star
+    ∷ not-product
+    ∷ wrong-argument
+    ∷ no-step
+    ∷ wrong-cast
+    ∷ wrong-recursion
+    ∷ over-limit
+    ∷ []
+
+reason-found : (r : Reason) → getD reasons (number r) limit-not-allowed ≡ r
+unfolding reasons number
+reason-found limit-not-allowed = refl
+reason-found work-short = refl
+reason-found output-short = refl
+reason-found length-not-allowed = refl
+reason-found no-meaning = refl
+reason-found list-ends = refl
+reason-found words-after = refl
+reason-found level-65 = refl
+reason-found unbound = refl
+reason-found not-star = refl
+reason-found not-product = refl
+reason-found wrong-argument = refl
+reason-found no-step = refl
+reason-found wrong-cast = refl
+reason-found wrong-recursion = refl
+reason-found over-limit = refl
+
+pub number-injective : (r s : Reason) → number r ≡ number s → r ≡ s
+number-injective = undone number (λ n. getD reasons n limit-not-allowed) reason-found
+
+-- The ends from number 0 on; no end has the number 0.
+ends : List End
+ends = at-value ∷ at-value ∷ spent ∷ at-stuck ∷ too-long ∷ []
+
+end-found : (E : End) → getD ends (end-number E) at-value ≡ E
+unfolding ends end-number
+end-found at-value = refl
+end-found spent = refl
+end-found at-stuck = refl
+end-found too-long = refl
+
+pub end-number-injective : (a b : End) → end-number a ≡ end-number b → a ≡ b
+end-number-injective = undone end-number (λ n. getD ends n at-value) end-found

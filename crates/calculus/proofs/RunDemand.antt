@@ -1,0 +1,78 @@
+-- Demand 2 for runs. Whatever `Runs` says is what `run` answers, by computing through the tests and, past them, since a run has one
+-- course; and `Runs` says something of every call, since each test is decided and every run has a course.
+use Prim.Native.Nat.{ℕ, _≤_, min}
+use mathlib.Core.List.{List}
+use mathlib.Core.Path.{_≡_, refl, sym, subst}
+use native.Mathlib.Decide.{decLe}
+use native.Mathlib.Omega.{arith}
+use lib.Dec.{lit≤}
+use lib.ListN.{length}
+use Rattle.calculus.specs.Term.{Term}
+use Rattle.calculus.specs.Answer.{Answer, ok, refused, _>>=_, _>>_, require, number}
+use Rattle.calculus.specs.Words.{longest}
+use Rattle.calculus.specs.Reading.{read}
+use Rattle.calculus.specs.Outcomes.{run-room, Ran, course, ran, run}
+use Rattle.calculus.specs.Runs.{Runs, work-refused, state-refused, unread, ended, Demand2-run, RunRefusals}
+use Rattle.calculus.proofs.Tests.{le-leb, gt-leb}
+use Rattle.calculus.proofs.ReadBack.{read-sound, read-exactly, read-reason}
+use Rattle.calculus.proofs.Courses.{run-course, course-answer}
+use Rattle.calculus.proofs.CheckDemand.{RefusedBy}
+
+module _ (ws : List ℕ) (budget allowance : ℕ) (W S : List ℕ) where
+  pub run-answer : {c : Ran} → Runs ws budget allowance W S c → run ws budget allowance W S ≡ c
+  unfolding run ran course require _>>_ _>>=_
+  run-answer (work-refused w) = rw (gt-leb run-room (length W) w) refl
+  run-answer (state-refused w s) = rw (le-leb run-room (length W) w, gt-leb longest (length S) s) refl
+  run-answer (unread w s e) = rw (le-leb run-room (length W) w, le-leb longest (length S) s, e) refl
+  run-answer (ended {E} {n} {t} {x} w s e c h b l f) =
+      rw (
+        le-leb run-room (length W) w,
+        le-leb longest (length S) s,
+        read-exactly ws t .1 (e, c),
+        course-answer
+            (min budget allowance)
+            n
+            (record { last = h; bounded = b; within = l; ends = f }),
+      )
+      refl
+
+  -- One of the cases holds.
+  abbrev Outcome : Type 0
+  Outcome = (c : Ran) × Runs ws budget allowance W S c
+
+  outcome : Outcome
+  outcome = by-work (decLe run-room (length W))
+    where
+      by-reading : run-room ≤ length W → longest ≤ length S → (x : Answer Term) → read ws ≡ x → Outcome
+      by-reading w s (ok t) e =
+          let (h, c) = read-sound ws t e in
+          let k = run-course (min budget allowance) t (c .short) in
+          (_, ended w s h c (k .last) (k .bounded) (k .within) (k .ends))
+      by-reading w s (refused r p) e = (_, unread w s e)
+
+      by-state : run-room ≤ length W → Dec (longest ≤ length S) → Outcome
+      by-state w (yes s) = by-reading w s (read ws) refl
+      by-state w (no s) = (_, state-refused w (omega arith))
+
+      by-work : Dec (run-room ≤ length W) → Outcome
+      by-work (yes w) = by-state w (decLe longest (length S))
+      by-work (no w) = (_, work-refused (omega arith))
+
+  pub run-runs : Runs ws budget allowance W S (run ws budget allowance W S)
+  run-runs = subst (Runs ws budget allowance W S) (sym (run-answer (outcome .1))) (outcome .1)
+
+pub demand2-run : Demand2-run
+demand2-run ws budget allowance W S c =
+    (λ e. subst (Runs ws budget allowance W S) e (run-runs ws budget allowance W S), run-answer ws budget allowance W S)
+
+refused-by : {ws : List ℕ} {budget allowance : ℕ} {W S : List ℕ} {c : Ran}
+    → Runs ws budget allowance W S c
+    → RefusedBy 2 9 (c .answer)
+unfolding number
+refused-by (work-refused w) = (lit≤ tt, lit≤ tt)
+refused-by (state-refused w s) = (lit≤ tt, lit≤ tt)
+refused-by {ws} (unread {r} {p} w s e) = let (l, u) = read-reason ws r p e in omega arith
+refused-by (ended w s h c k b l f) = tt
+
+pub run-refusals : RunRefusals
+run-refusals ws budget allowance W S r p e = subst (RefusedBy 2 9) e (refused-by (run-runs ws budget allowance W S))

@@ -1,0 +1,91 @@
+-- Demand 3. A run of words that a check accepted begins at the term that they are, whose type is the one that the check answered.
+-- Every step keeps the type, so every state has it; hence each is a value or steps, and no run ends stuck.
+use Prim.Native.Nat.{ℕ, _≤_, min}
+use mathlib.Core.Bool.{true≢false}
+use mathlib.Core.List.{List, []}
+use mathlib.Core.Logic.{_⊎_, inl, inr, ⊎-elim, _≢_}
+use mathlib.Core.Path.{_≡_, sym, _∙_, subst}
+use native.Mathlib.Decide.{decLe}
+use native.Mathlib.Omega.{arith}
+use Rattle.calculus.specs.Term.{Term, size}
+use Rattle.calculus.specs.Words.{words, Readable, longest}
+use Rattle.calculus.specs.Rules.{_⟶_, CanStep, Value, _⊢_⦂_}
+use Rattle.calculus.specs.Run.{State, state-zero, state-suc, End, at-stuck, Ends, ends-spent, ends-value, ends-stuck, ends-long}
+use Rattle.calculus.specs.Outcomes.{Ran, run}
+use Rattle.calculus.specs.Runs.{Runs, work-refused, state-refused, unread, ended}
+use Rattle.calculus.specs.Safety.{Only, Safe, Safely, work-refused as work-refused′, state-refused as state-refused′, ended as ended′, SafeRun, Demand3}
+use Rattle.calculus.proofs.Coding.{words-injective}
+use Rattle.calculus.proofs.ReadBack.{read-exactly}
+use Rattle.calculus.proofs.Types.{uniqueness}
+use Rattle.calculus.proofs.Safety.{preservation, progress, typed-next, canonical}
+use Rattle.calculus.proofs.Courses.{state-unique}
+use Rattle.calculus.proofs.CheckDemand.{accepted}
+use Rattle.calculus.proofs.RunDemand.{run-runs}
+
+state-typed : {t x τ : Term} {k : ℕ} → [] ⊢ t ⦂ τ → State t k x → [] ⊢ x ⦂ τ
+state-typed d state-zero = d
+state-typed d (state-suc h s) = preservation (state-typed d h) s
+
+-- What a typed state is.
+safe : {τ x : Term} → [] ⊢ x ⦂ τ → Safe τ x
+safe {τ} {x} d =
+    record {
+      type = λ σ. (λ e. uniqueness e d, λ e. subst (λ y. [] ⊢ x ⦂ y) (sym e) d);
+      progress = told (typed-next d);
+    }
+  where
+    told : (Value x × ¬ CanStep x) ⊎ (¬ Value x × ((y : Term) × (x ⟶ y) × ((z : Term) → x ⟶ z → z ≡ y)))
+        → (Value x × ¬ CanStep x) ⊎ (¬ Value x × ((y : Term) × Only (λ z. x ⟶ z) y))
+    told (inl v) = inl v
+    told (inr (v, (y, s, u))) = inr (v, (y, (s, u)))
+
+not-stuck : {g n : ℕ} {x τ : Term} {E : End} → [] ⊢ x ⦂ τ → Ends g n x E → E ≢ at-stuck
+not-stuck d (ends-spent h) e = absurd (true≢false (cc e))
+not-stuck d (ends-value h v) e = absurd (true≢false (cc e))
+not-stuck d (ends-stuck h v s) e = ⊎-elim v s (progress d)
+not-stuck d (ends-long h s l) e = absurd (true≢false (cc e))
+
+-- The states before a state.
+state-before : {t x : Term} {n : ℕ} (k : ℕ) → k ≤ n → State t n x → (y : Term) × State t k y
+state-before {t} k l state-zero = (t, subst (λ m. State t m t) (omega arith) state-zero)
+state-before {t} k l (state-suc {k = m} {y = y} h s) = on (λ l. state-before k l h) (decLe k m)
+  where
+    on : (k ≤ m → (z : Term) × State t k z) → Dec (k ≤ m) → (z : Term) × State t k z
+    on before (yes l) = before l
+    on before (no n) = (y, subst (λ m. State t m y) (omega arith) (state-suc h s))
+
+safely : {ws : List ℕ} {budget allowance : ℕ} {W S : List ℕ} {t τ : Term} {c : Ran}
+    → ws ≡ words t
+    → Readable t
+    → [] ⊢ t ⦂ τ
+    → Runs ws budget allowance W S c
+    → Safely t τ (min budget allowance) W S (c .answer)
+safely h r d (work-refused w) = work-refused′ w
+safely h r d (state-refused w s) = state-refused′ w s
+safely {ws} {t} h r d (unread w s e) = absurd (true≢false (cc (sym e ∙ read-exactly ws t .1 (h, r))))
+safely {t} {τ} h r d (ended {E} {n} {t = t′} {x} w s h′ r′ k b l f) =
+    ended′ w s last f (not-stuck (state-typed d last) f) states
+  where
+    one : t′ ≡ t
+    one = words-injective t′ t (sym h′ ∙ h)
+
+    last : State t n x
+    last = subst (λ z. State z n x) one k
+
+    states : (k : ℕ) → k ≤ n → (y : Term) × Only (State t k) y × (size y ≤ longest) × Safe τ y
+    states k l =
+        let (y, q) = state-before k l last in
+        (y, (q, λ z p. state-unique p q), b k y l (subst (λ z. State z k y) (sym one) q), safe (state-typed d q))
+
+pub demand3 : Demand3
+demand3 = (runs-safely, λ Γ v τ. canonical)
+  where
+    runs-safely : (ws : List ℕ) (budget allowance : ℕ) (W S : List ℕ) → SafeRun ws budget allowance W S (run ws budget allowance W S)
+    runs-safely ws budget allowance W S L W₁ O₁ n e =
+        let (t, τ, a) = accepted ws L W₁ O₁ n e in (
+          t,
+          τ,
+          ((a .coded, a .readable), λ t′ p. words-injective t′ t (sym (p .0) ∙ a .coded)),
+          (sym (a .front), λ τ′ p. words-injective τ′ τ (p ∙ a .front)),
+          safely (a .coded) (a .readable) (a .typing .typed) (run-runs ws budget allowance W S),
+        )

@@ -1,0 +1,229 @@
+-- The table of the starred terms. One test computes a row: it reads the words, infers or runs, and compares with the row's columns. A
+-- row that passes holds, since what the functions answer is what the rules say; and every row of the table passes, by computing.
+use Prim.Native.Nat.{ℕ, zero, suc, _≤_, min}
+use mathlib.Core.Bool.{Bool, true, false, _&&_, decide}
+use mathlib.Core.List.{List, [], _∷_}
+use mathlib.Core.Path.{_≡_, refl, sym, _∙_, ap, ap₂, subst₂}
+use native.Mathlib.Decide.{ℕ-discrete}
+use native.Mathlib.Omega.{arith}
+use lib.Dec.{T, leb, eqb, leb→le, eqb→eq}
+use Rattle.calculus.specs.Term.{Term, size, raise, substitute}
+use Rattle.calculus.specs.Answer.{Reason, Answer, ok, refused, _>>=_, _>>_, require, number}
+use Rattle.calculus.specs.Words.{emit, words, longest}
+use Rattle.calculus.specs.Reading.{meaning, binds, means, bound, test, node₁, node₂, node, below, scan, the-first, read}
+use Rattle.calculus.specs.Rules.{_⟶_, env-empty}
+use Rattle.calculus.specs.Step.{Next, value, stuck, next, under, applied, cancelled, step}
+use Rattle.calculus.specs.Infer.{annotation, same, measure, product, stepped, infer}
+use Rattle.calculus.specs.Run.{State, state-zero, state-suc, ends-spent, End, spent, end-number, Ended, stop, one-more, advance, run-from}
+use Rattle.calculus.specs.Outcomes.{largest-limit}
+use Rattle.calculus.specs.Checks.{Allowed, untyped, typed}
+use Rattle.calculus.specs.Runs.{ended}
+use Rattle.calculus.specs.Starred.{Row, types, refuses, ends, spins, Claim, Claims, starred, StarredTerms}
+use Rattle.calculus.proofs.Coding.{words-length, words-injective}
+use Rattle.calculus.proofs.ReadBack.{read-sound}
+use Rattle.calculus.proofs.Reduction.{next-step}
+use Rattle.calculus.proofs.Inference.{infer-sound, refused-sound}
+use Rattle.calculus.proofs.Refusals.{untyped as no-type}
+use Rattle.calculus.proofs.NumberInjective.{number-injective, end-number-injective}
+use Rattle.calculus.proofs.Courses.{Course, state-unique, run-course}
+use Rattle.calculus.proofs.CheckDemand.{check-answer}
+use Rattle.calculus.proofs.RunDemand.{run-answer}
+
+same-words : List ℕ → List ℕ → Bool
+same-words [] [] = true
+same-words [] (y ∷ ys) = false
+same-words (x ∷ xs) [] = false
+same-words (x ∷ xs) (y ∷ ys) = eqb x y && same-words xs ys
+
+-- A test of what is answered, which a refusal fails;
+on-answer : {A : Type 0} → (A → Bool) → Answer A → Bool
+on-answer f (ok a) = f a
+on-answer f (refused r p) = false
+
+-- of a refusal, which an answer fails;
+refused-by : {A : Type 0} → Reason → ℕ → Answer A → Bool
+refused-by r p (ok a) = false
+refused-by r p (refused s q) = eqb (number s) (number r) && eqb q p
+
+-- and of a next state, which a term that has none fails.
+on-next : (Term → Bool) → Next → Bool
+on-next f value = false
+on-next f stuck = false
+on-next f (next x) = f x
+
+allowed : ℕ → Bool
+allowed L = leb 1 L && leb L largest-limit
+
+ended-by : End → ℕ → List ℕ → Ended → Bool
+ended-by E n out r = eqb (end-number (r .end)) (end-number E) && eqb (r .steps) n && same-words (words (r .state)) out
+
+row-holds : Row → Bool
+row-holds (types ws L out) = allowed L && on-answer (λ t. on-answer (λ τ. same-words (words τ) out) (infer L [] 0 t)) (read ws)
+row-holds (refuses ws L r p) = allowed L && on-answer (λ t. refused-by r p (infer L [] 0 t)) (read ws)
+row-holds (ends ws budget E n out) = on-answer (λ t. ended-by E n out (run-from budget t)) (read ws)
+row-holds (spins ws) = on-answer (λ t. on-next (λ x. same-words (words x) (words t)) (step t)) (read ws)
+
+rows-hold : List Row → Bool
+rows-hold [] = true
+rows-hold (r ∷ rs) = row-holds r && rows-hold rs
+
+-- What each test says.
+both : (a b : Bool) → T (a && b) → T a × T b
+both true b h = (tt, h)
+both false b h = elim h [ ]
+
+same-words-equal : (xs ys : List ℕ) → T (same-words xs ys) → xs ≡ ys
+unfolding same-words
+same-words-equal [] [] h = refl
+same-words-equal [] (y ∷ ys) h = elim h [ ]
+same-words-equal (x ∷ xs) [] h = elim h [ ]
+same-words-equal (x ∷ xs) (y ∷ ys) h =
+    let (p, q) = both (eqb x y) (same-words xs ys) h in
+    ap₂ _∷_ (eqb→eq x y p) (same-words-equal xs ys q)
+
+answers : {A : Type 0} (f : A → Bool) (x : Answer A) → T (on-answer f x) → (a : A) × (x ≡ ok a) × T (f a)
+unfolding on-answer
+answers f (ok a) h = (a, refl, h)
+answers f (refused r p) h = elim h [ ]
+
+refuses-by : {A : Type 0} (r : Reason) (p : ℕ) (x : Answer A) → T (refused-by r p x) → x ≡ refused r p
+unfolding refused-by
+refuses-by r p (ok a) h = elim h [ ]
+refuses-by r p (refused s q) h =
+    let (i, j) = both (eqb (number s) (number r)) (eqb q p) h in
+    ap₂ refused (number-injective s r (eqb→eq (number s) (number r) i)) (eqb→eq q p j)
+
+steps-on : (f : Term → Bool) (m : Next) → T (on-next f m) → (x : Term) × (m ≡ next x) × T (f x)
+unfolding on-next
+steps-on f value h = elim h [ ]
+steps-on f stuck h = elim h [ ]
+steps-on f (next x) h = (x, refl, h)
+
+is-allowed : (L : ℕ) → T (allowed L) → Allowed L
+unfolding allowed
+is-allowed L h =
+    let (i, j) = both (leb 1 L) (leb L largest-limit) h in
+    (leb→le 1 L i, leb→le L largest-limit j)
+
+ends-by : (E : End) (n : ℕ) (out : List ℕ) (r : Ended) → T (ended-by E n out r) → (r .end ≡ E) × (r .steps ≡ n) × (words (r .state) ≡ out)
+unfolding ended-by
+ends-by E n out r h =
+    let (ij, k) = both (eqb (end-number (r .end)) (end-number E) && eqb (r .steps) n) (same-words (words (r .state)) out) h in
+    let (i, j) = both (eqb (end-number (r .end)) (end-number E)) (eqb (r .steps) n) ij in (
+      end-number-injective (r .end) E (eqb→eq (end-number (r .end)) (end-number E) i),
+      eqb→eq (r .steps) n j,
+      same-words-equal (words (r .state)) out k,
+    )
+
+-- What a row claims, from what the functions answer.
+types-claim : (ws : List ℕ) (L : ℕ) (out : List ℕ) {t τ : Term}
+    → Allowed L
+    → read ws ≡ ok t
+    → infer L [] 0 t ≡ ok τ
+    → words τ ≡ out
+    → Claim (types ws L out)
+unfolding Claim
+types-claim ws L out {t} {τ} a e i o =
+    let (w, c) = read-sound ws t e in
+    let d = infer-sound 0 env-empty (c .closed) i in
+    (t, τ, w, c, sym o, d, λ W O l m. rw (← o, words-length τ) (check-answer ws L W O (typed a l m w c d)))
+
+refuses-claim : (ws : List ℕ) (L : ℕ) (r : Reason) (p : ℕ) {t : Term}
+    → Allowed L
+    → read ws ≡ ok t
+    → infer L [] 0 t ≡ refused r p
+    → Claim (refuses ws L r p)
+unfolding Claim
+refuses-claim ws L r p {t} a e i =
+    let (w, c) = read-sound ws t e in
+    let f = refused-sound env-empty (c .closed) i in
+    (t, w, c, f, λ n τ d. no-type f n d, λ W O l m. check-answer ws L W O (untyped a l m w c f))
+
+ends-claim : (ws : List ℕ) (budget : ℕ) (E : End) (n : ℕ) (out : List ℕ) {t x : Term}
+    → read ws ≡ ok t
+    → Course budget t E n x
+    → words x ≡ out
+    → Claim (ends ws budget E n out)
+unfolding Claim
+ends-claim ws budget E n out {t} {x} e k o =
+    let (w, c) = read-sound ws t e in (
+      t,
+      x,
+      w,
+      c,
+      sym o,
+      k .last,
+      k .ends,
+      λ allowance W S g l m.
+          let grant : budget ≡ min budget allowance = omega arith in
+          rw
+          (← o)
+          (run-answer ws budget allowance W S (ended l m w c (k .last) (k .bounded) (rw grant at (k .within)) (rw grant at (k .ends)))),
+    )
+
+-- A term that steps to itself is each of its states, so every run of it is spent.
+spinning : {t : Term} → t ⟶ t → (k : ℕ) → State t k t
+spinning s zero = state-zero
+spinning s (suc k) = state-suc (spinning s k) s
+
+spinning-course : {t : Term} → t ⟶ t → size t ≤ longest → (g : ℕ) → Course g t spent g t
+spinning-course s h g =
+    record {
+      last = spinning s g;
+      bounded = λ k y l r. rw (state-unique r (spinning s k)) h;
+      within = omega arith;
+      ends = ends-spent refl;
+    }
+
+spins-claim : (ws : List ℕ) {t : Term} → read ws ≡ ok t → t ⟶ t → Claim (spins ws)
+unfolding Claim
+spins-claim ws {t} e s =
+    let (w, c) = read-sound ws t e in (
+      t,
+      w,
+      c,
+      s,
+      λ budget allowance W S l m.
+          let k = spinning-course s (c .short) (min budget allowance) in
+          rw w (run-answer (words t) budget allowance W S (ended l m refl c (k .last) (k .bounded) (k .within) (k .ends))),
+    )
+
+-- A row that passes holds.
+row-claim : (r : Row) → T (row-holds r) → Claim r
+unfolding row-holds
+row-claim (types ws L out) h =
+    let (a, i) = both (allowed L) _ h in
+    let (t, e, j) = answers _ (read ws) i in
+    let (τ, d, k) = answers _ (infer L [] 0 t) j in
+    types-claim ws L out (is-allowed L a) e d (same-words-equal (words τ) out k)
+row-claim (refuses ws L r p) h =
+    let (a, i) = both (allowed L) _ h in
+    let (t, e, j) = answers _ (read ws) i in
+    refuses-claim ws L r p (is-allowed L a) e (refuses-by r p (infer L [] 0 t) j)
+row-claim (ends ws budget E n out) h =
+    let (t, e, i) = answers _ (read ws) h in
+    let (p, q, o) = ends-by E n out (run-from budget t) i in
+    ends-claim
+    ws
+    budget
+    E
+    n
+    out
+    e
+    (subst₂ (λ F k. Course budget t F k (run-from budget t .state)) p q (run-course budget t (read-sound ws t e .1 .short)))
+    o
+row-claim (spins ws) h =
+    let (t, e, i) = answers _ (read ws) h in
+    let (x, s, k) = steps-on _ (step t) i in
+    spins-claim ws e (next-step (s ∙ ap next (words-injective x t (same-words-equal (words x) (words t) k))))
+
+rows-claim : (rs : List Row) → T (rows-hold rs) → Claims rs
+unfolding Claims rows-hold
+rows-claim [] h = tt
+rows-claim (r ∷ rs) h =
+    let (i, j) = both (row-holds r) (rows-hold rs) h in
+    (row-claim r i, rows-claim rs j)
+
+pub starred-terms : StarredTerms
+unfolding rows-hold row-holds same-words on-answer refused-by on-next allowed ended-by read scan test means meaning bound binds node node₁ node₂ below the-first _>>=_ _>>_ require number infer annotation measure product stepped same decide ℕ-discrete size raise substitute step under applied cancelled words emit run-from advance stop one-more end-number
+starred-terms = rows-claim starred tt
