@@ -1,8 +1,9 @@
 -- `raise` and `substitute` of `Term` are walks through the term with functions of their own, since these go under a binder as the
 -- walk does. Hence what `Parallel` says of walks holds of them.
-use Prim.Native.Nat.{ℕ, zero, suc, _+_, _-_}
+use Prim.Native.Nat.{ℕ, zero, suc, _+_}
 use native.Mathlib.Nat.{add-zero, add-suc, suc-add}
-use native.Mathlib.Numerals.{add-one, sub-one}
+use native.Mathlib.Numerals.{add-one}
+use native.Mathlib.Omega.{arith}
 use mathlib.Core.Bool.{Bool, true, false, cond}
 use mathlib.Core.Path.{_≡_, refl, sym, _∙_, ap, ap₂, fun-ext}
 use lib.Dec.{ltb, eqb, leb·zero, leb·suc-zero, leb·suc-suc, eqb·suc-suc, eqb·suc-zero}
@@ -56,7 +57,7 @@ raise-none t = raise-all 0 t ∙ ap (λ ρ. rename ρ t) (fun-ext add-zero) ∙ 
 
 -- What `substitute k s` puts in for the index `i`.
 put : ℕ → Term → ℕ → Term
-put k s i = cond (ltb i k) (var i) (cond (eqb i k) (raise k 0 s) (var (i - 1)))
+put k s i = substitute k s (var i)
 
 -- A choice among three, of which each is mapped.
 choice : {A B : Type 0} (f : A → B) (b c : Bool) {x y z : A} {x′ y′ z′ : B}
@@ -69,7 +70,7 @@ choice f false true p q r = q
 choice f false false p q r = r
 
 put-lift : (k : ℕ) (s : Term) → lift (put k s) ≡ put (suc k) s
-unfolding lift put rename traverse
+unfolding lift put substitute rename traverse
 put-lift k s = fun-ext (pointwise k)
   where
     pointwise : (k i : ℕ) → lift (put k s) i ≡ put (suc k) s i
@@ -77,8 +78,8 @@ put-lift k s = fun-ext (pointwise k)
     pointwise zero (suc zero) = raise-more zero s
     pointwise (suc k) (suc zero) = rw (leb·suc-suc zero k, leb·suc-suc 1 (suc k), leb·suc-suc zero k, leb·zero k)
     pointwise k (suc (suc i)) =
-        rw (leb·suc-suc (suc (suc i)) k, eqb·suc-suc (suc i) k, sub-one (suc i), sub-one (suc (suc i)))
-        (choice (rename suc) (ltb (suc i) k) (eqb (suc i) k) refl (raise-more k s) refl)
+        rw (leb·suc-suc (suc (suc i)) k, eqb·suc-suc (suc i) k)
+        (choice (rename suc) (ltb (suc i) k) (eqb (suc i) k) refl (raise-more k s) (ap var (omega arith)))
 
 substitute-sub : (k : ℕ) (s t : Term) → substitute k s t ≡ sub (put k s) t
 unfolding substitute sub traverse put
@@ -97,12 +98,12 @@ single s zero = s
 single s (suc i) = var i
 
 put-single : (s : Term) → put 0 s ≡ single s
-unfolding put single
+unfolding put substitute single
 put-single s = fun-ext pointwise
   where
     pointwise : (i : ℕ) → put 0 s i ≡ single s i
     pointwise zero = raise-none s
-    pointwise (suc i) = rw (leb·suc-zero (suc i), eqb·suc-zero i, sub-one (suc i))
+    pointwise (suc i) = rw (leb·suc-zero (suc i), eqb·suc-zero i) (ap var (omega arith))
 
 pub substitute-is-sub : (s t : Term) → substitute 0 s t ≡ sub (single s) t
 substitute-is-sub s t = substitute-sub 0 s t ∙ ap (λ σ. sub σ t) (put-single s)

@@ -1,31 +1,30 @@
 -- Demand 2 for checks. Whatever `Checks` says is what `check` answers, by computing through the tests in their order; and `Checks`
 -- says something of every call, since each of its tests is decided. So what `check` answers is what `Checks` says.
 use Prim.Native.Nat.{ℕ, _≤_}
-use mathlib.Core.Bool.{false, true≢false, _&&_}
+use mathlib.Core.Bool.{false, _&&_}
 use mathlib.Core.List.{List, []}
 use mathlib.Core.Logic.{_⊎_, inl, inr, Dec·and}
-use mathlib.Core.Path.{_≡_, refl, sym, ap, _∙_, subst}
+use mathlib.Core.Path.{_≡_, refl, sym, subst}
 use native.Mathlib.Decide.{decLe}
 use native.Mathlib.Omega.{arith}
 use lib.Dec.{leb, lit≤}
-use lib.ListN.{length, take, drop}
-use lib.Seq.{take-at}
-use Rattle.calculus.specs.Term.{Term, size}
+use lib.ListN.{length}
+use Rattle.calculus.specs.Term.{Term}
 use Rattle.calculus.specs.Answer.{Reason, Answer, ok, refused, _>>=_, _>>_, require, number}
 use Rattle.calculus.specs.Words.{words, Readable}
 use Rattle.calculus.specs.Reading.{read}
-use Rattle.calculus.specs.Rules.{_⊢_⦂_, env-empty}
+use Rattle.calculus.specs.Rules.{env-empty}
 use Rattle.calculus.specs.Limit.{_⊢⟨_⟩_⦂_}
 use Rattle.calculus.specs.Failing.{Fails}
 use Rattle.calculus.specs.Infer.{infer}
-use Rattle.calculus.specs.Outcomes.{largest-limit, check-room, begun, Checked, verdict, checked, check}
-use Rattle.calculus.specs.Checks.{Coding, PrefixFree, Allowed, Checks, limit-refused, work-refused, output-refused, unread, untyped, typed, Demand2-check, TypedOrFails, Untypable, SameType, CheckRefusals}
-use Rattle.calculus.proofs.Tests.{le-leb, gt-leb}
-use Rattle.calculus.proofs.Coding.{words-length, words-injective, prefix-free}
-use Rattle.calculus.proofs.Types.{uniqueness}
+use Rattle.calculus.specs.Outcomes.{largest-limit, check-room, Checked, verdict, checked, check}
+use Rattle.calculus.specs.Checks.{Coding, PrefixFree, Allowed, Checks, limit-refused, work-refused, output-refused, unread, untyped, typed, Demand2-check, TypedOrFails, Untypable, CheckRefusals}
+use Rattle.calculus.proofs.Comparisons.{le-leb, gt-leb}
+use Rattle.calculus.proofs.Says.{RefusedBy}
+use Rattle.calculus.proofs.Coding.{prefix-free}
 use Rattle.calculus.proofs.ReadBack.{read-sound, read-exactly, read-reason}
 use Rattle.calculus.proofs.Completeness.{infer-complete, refused-complete, not-both}
-use Rattle.calculus.proofs.Refusals.{untyped as no-type, fails-reason}
+use Rattle.calculus.proofs.Refusals.{no-type, fails-reason}
 use Rattle.calculus.proofs.Inference.{one-of-two}
 
 pub coding : Coding
@@ -109,65 +108,7 @@ typed-or-fails L t c = (one-of-two L 0 t env-empty (c .closed), λ r p τ f d. n
 pub untypable : Untypable
 untypable L t τ r p f n d = no-type f n d
 
--- What an accepted call says: the words are those of a readable term, and the output begins with the words of its type.
-pub record Accepted (ws : List ℕ) (L : ℕ) (n : ℕ) (output : List ℕ) (t τ : Term) : Type 0 where
-  pub coded : ws ≡ words t
-  pub readable : Readable t
-  pub typing : [] ⊢⟨ L ⟩ t ⦂ τ
-  pub extent : n ≡ size τ
-  pub front : take n output ≡ words τ
-
-front-of-begun : (τ : Term) (O : List ℕ) → take (size τ) (begun (words τ) O) ≡ words τ
-unfolding begun
-front-of-begun τ O = take-at (words τ) (drop (length (words τ)) O) (size τ) (words-length τ)
-
-accepted-as : {ws : List ℕ} {L : ℕ} {W O : List ℕ} {n : ℕ} {c : Checked}
-    → Checks ws L W O c
-    → c .answer ≡ ok n
-    → (t : Term) × (τ : Term) × Accepted ws L n (c .output) t τ
-accepted-as (limit-refused n) e = absurd (true≢false (cc e))
-accepted-as (work-refused a w) e = absurd (true≢false (cc e))
-accepted-as (output-refused a w o) e = absurd (true≢false (cc e))
-accepted-as (unread a w o r) e = absurd (true≢false (cc e))
-accepted-as (untyped a w o h c f) e = absurd (true≢false (cc e))
-accepted-as {O} {n} (typed {t} {τ} a w o h c d) e =
-    let extent : n ≡ size τ = cc e in (
-      t,
-      τ,
-      record {
-        coded = h;
-        readable = c;
-        typing = d;
-        extent = extent;
-        front = ap (λ k. take k (begun (words τ) O)) extent ∙ front-of-begun τ O;
-      },
-    )
-
-pub accepted : (ws : List ℕ) (L : ℕ) (W O : List ℕ) (n : ℕ)
-    → check ws L W O .answer ≡ ok n
-    → (t : Term) × (τ : Term) × Accepted ws L n (check ws L W O .output) t τ
-accepted ws L W O n e = accepted-as (check-checks ws L W O) e
-
-agree : {ws : List ℕ} {L L′ n n′ : ℕ} {O O′ : List ℕ} {t t′ τ τ′ : Term}
-    → Accepted ws L n O t τ
-    → Accepted ws L′ n′ O′ t′ τ′
-    → (n ≡ n′) × (take n O ≡ take n′ O′)
-agree {t} {t′} {τ} {τ′} a b = (a .extent ∙ ap size same ∙ sym (b .extent), a .front ∙ ap words same ∙ sym (b .front))
-  where
-    one : t′ ≡ t
-    one = words-injective t′ t (sym (b .coded) ∙ a .coded)
-
-    same : τ ≡ τ′
-    same = uniqueness (a .typing .typed) (subst (λ x. [] ⊢ x ⦂ τ′) one (b .typing .typed))
-
-pub same-type : SameType
-same-type ws L L′ W W′ O O′ n n′ e e′ = agree (accepted ws L W O n e .2) (accepted ws L′ W′ O′ n′ e′ .2)
-
--- A refusal by a reason with a number from m to n; an answer is none.
-abbrev pub RefusedBy : {A : Type 0} → ℕ → ℕ → Answer A → Type 0
-RefusedBy m n (ok a) = Unit
-RefusedBy m n (refused r p) = (m ≤ number r) × (number r ≤ n)
-
+-- The reasons of each case have numbers 1–16.
 refused-by : {ws : List ℕ} {L : ℕ} {W O : List ℕ} {c : Checked} → Checks ws L W O c → RefusedBy 1 16 (c .answer)
 unfolding number
 refused-by (limit-refused n) = (lit≤ tt, lit≤ tt)

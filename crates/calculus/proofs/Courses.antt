@@ -11,8 +11,9 @@ use Rattle.calculus.specs.Words.{longest}
 use Rattle.calculus.specs.Rules.{_⟶_}
 use Rattle.calculus.specs.Step.{Next, next}
 use Rattle.calculus.specs.Run.{State, state-zero, state-suc, End, Ends, ends-spent, ends-value, ends-stuck, ends-long, Ended, stop, one-more, advance, run-from}
-use Rattle.calculus.proofs.Tests.{le-leb, gt-leb}
-use Rattle.calculus.proofs.Reduction.{determinism, Says, says-value, says-stuck, says-next, step-says, step-next, value-step, stuck-step}
+use Rattle.calculus.proofs.Comparisons.{le-leb, gt-leb}
+use Rattle.calculus.proofs.Reduction.{determinism}
+use Rattle.calculus.proofs.Stepping.{Finds, finds-value, finds-stuck, finds-next, step-finds, step-next, value-step, stuck-step}
 
 -- A run of `t` with the grant `g` ends by E after `n` steps at `x`.
 pub record Course (g : ℕ) (t : Term) (E : End) (n : ℕ) (x : Term) : Type 0 where
@@ -78,12 +79,12 @@ Answered g t r = Course g t (r .end) (r .steps) (r .state)
 advance-course : {g : ℕ} {t : Term} {m : Next} (go : Term → Ended)
     → size t ≤ longest
     → ((y : Term) → size y ≤ longest → Answered g y (go y))
-    → Says t m
+    → Finds t m
     → Answered (suc g) t (advance go t m)
 unfolding advance stop one-more
-advance-course go h all (says-value v) = course-here h (ends-value (omega arith) v)
-advance-course go h all (says-stuck v s) = course-here h (ends-stuck (omega arith) v s)
-advance-course {g} {t} go h all (says-next {x} s) = on (decLe (size x) longest)
+advance-course go h all (finds-value v) = course-here h (ends-value (omega arith) v)
+advance-course go h all (finds-stuck v s) = course-here h (ends-stuck (omega arith) v s)
+advance-course {g} {t} go h all (finds-next {x} s) = on (decLe (size x) longest)
   where
     on : Dec (size x ≤ longest) → Answered (suc g) t (advance go t (next x))
     on (yes l) = rw (le-leb (size x) longest l) (course-after h s (all x l))
@@ -92,7 +93,7 @@ advance-course {g} {t} go h all (says-next {x} s) = on (decLe (size x) longest)
 pub run-course : (g : ℕ) (t : Term) → size t ≤ longest → Answered g t (run-from g t)
 unfolding run-from stop
 run-course zero t h = course-here h (ends-spent refl)
-run-course (suc g) t h = advance-course (run-from g) h (run-course g) (step-says t)
+run-course (suc g) t h = advance-course (run-from g) h (run-course g) (step-finds t)
 
 -- A run that ends where it begins is the run's answer,
 answer-here : (g : ℕ) {t : Term} {E : End} → Ends g 0 t E → run-from g t ≡ stop E t

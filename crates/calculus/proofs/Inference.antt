@@ -16,7 +16,8 @@ use Rattle.calculus.specs.Limit.{_⊢⟨_⟩_⦂_}
 use Rattle.calculus.specs.Failing.{Fails, first-part, second-part, star-over, var-over, app-function, app-not-product, app-argument, app-mismatch, app-over, lam-annotation, lam-not-star, lam-body, lam-over, pi-domain, pi-domain-not-star, pi-codomain, pi-codomain-not-star, pi-over, castup-annotation, castup-not-star, castup-body, castup-rests, castup-step-over, castup-mismatch, castup-over, castdown-body, castdown-rests, castdown-over, mu-annotation, mu-not-star, mu-body, mu-mismatch, mu-over}
 use Rattle.calculus.specs.Step.{Next}
 use Rattle.calculus.specs.Infer.{infer, annotation}
-use Rattle.calculus.proofs.Reduction.{value-rests, Says, says-value, says-stuck, says-next, step-says}
+use Rattle.calculus.proofs.Reduction.{value-rests}
+use Rattle.calculus.proofs.Stepping.{Finds, finds-value, finds-stuck, finds-next, step-finds}
 use Rattle.calculus.proofs.Within.{star-within, var-within, app-within, lam-within, pi-within, castup-within, castdown-within, mu-within}
 use Rattle.calculus.proofs.Completeness.{infer-complete, refused-complete, ok-not-refused}
 
@@ -89,12 +90,12 @@ module _ {L : ℕ} {Γ : Context} {p : ℕ} {e : Term} where
       → (¬ CanStep τ → Fails L Γ p e r q)
       → ((τ′ : Term) → τ ⟶ τ′ → Verdict L Γ p e)
       → Verdict L Γ p e
-  steps τ else-fails rest = on (step-says τ)
+  steps τ else-fails rest = on (step-finds τ)
     where
-      on : {x : Next} → Says τ x → Verdict L Γ p e
-      on (says-value v) = failing (else-fails (λ c. value-rests v (c .1)))
-      on (says-stuck _ n) = failing (else-fails n)
-      on (says-next {x} s) = rest x s
+      on : {x : Next} → Finds τ x → Verdict L Γ p e
+      on (finds-value v) = failing (else-fails (λ c. value-rests v (c .1)))
+      on (finds-stuck _ n) = failing (else-fails n)
+      on (finds-next {x} s) = rest x s
 
   -- τ fits the limit.
   fits-limit : (τ : Term)

@@ -12,10 +12,10 @@ use Rattle.calculus.specs.Term.{Term, size}
 use Rattle.calculus.specs.Words.{words, Readable, longest, deepest}
 use Rattle.calculus.specs.Answer.{Reason, ok, refused, _>>=_, _>>_, require, number, length-not-allowed}
 use Rattle.calculus.specs.Reading.{Pending, scan, the-first, read}
-use Rattle.calculus.proofs.Tests.{le-leb}
+use Rattle.calculus.proofs.Comparisons.{le-leb}
 use Rattle.calculus.proofs.Coding.{size-positive, words-length}
 use Rattle.calculus.proofs.Says.{Says, says-ok, says-bind, says-then, says-require, of-ok, of-refused}
-use Rattle.calculus.proofs.ScanSound.{Fit, fit-none, fit-one, emits, No-term, scan-says}
+use Rattle.calculus.proofs.ScanSound.{Filled, filled-none, filled-one, emits, No-term, scan-says}
 use Rattle.calculus.proofs.ScanWords.{Reads, scan-term}
 
 -- What a whole list is read as: a closed term of at most 64 levels.
@@ -36,10 +36,10 @@ second-test false b h = elim h [ ]
 one-term : (ws : List ℕ) (ts : List Term)
     → length ws ≤ longest
     → ws ≡ emits ts
-    → Fit (whole ∷ []) ts
+    → Filled (whole ∷ []) ts
     → (ws ≡ words (the-first ts)) × Readable (the-first ts)
 unfolding emits words the-first
-one-term ws ts short e (fit-one {t = t} h fit-none) =
+one-term ws ts short e (filled-one {t = t} h filled-none) =
     (e, record { closed = h .scoped; short = subst (λ n. n ≤ longest) (ap length e ∙ words-length t) short; shallow = h .within })
 
 read-says : (ws : List ℕ) → Says (λ t. (ws ≡ words t) × Readable t) No-term (read ws)

@@ -11,38 +11,38 @@ use Rattle.calculus.specs.Failing.{Fails, star-over, var-over, app-funct
 use Rattle.calculus.proofs.Reduction.{determinism}
 use Rattle.calculus.proofs.Types.{uniqueness}
 
-pub untyped : {L : ℕ} {Γ : Context} {p q : ℕ} {e τ : Term} {r : Reason} → Fails L Γ p e r q → r ≢ over-limit → Γ ⊢ e ⦂ τ → ⊥
-untyped (star-over h) n d = n refl
-untyped (var-over v h) n d = n refl
-untyped (app-function x) n (t-app df du) = untyped x n df
-untyped (app-not-product hf m) n (t-app df du) = m _ _ (uniqueness (hf .typed) df)
-untyped (app-argument hf x) n (t-app df du) = untyped x n du
-untyped (app-mismatch hf hu m) n (t-app df du) = m (cc (uniqueness (hf .typed) df, uniqueness (hu .typed) du))
-untyped (app-over hf hu h) n d = n refl
-untyped (lam-annotation x) n (t-lam de (t-pi da db)) = untyped x n da
-untyped (lam-not-star ha m) n (t-lam de (t-pi da db)) = m (uniqueness (ha .typed) da)
-untyped (lam-body ha x) n (t-lam de dp) = untyped x n de
-untyped (lam-over ha he h) n d = n refl
-untyped (pi-domain x) n (t-pi da db) = untyped x n da
-untyped (pi-domain-not-star ha m) n (t-pi da db) = m (uniqueness (ha .typed) da)
-untyped (pi-codomain ha x) n (t-pi da db) = untyped x n db
-untyped (pi-codomain-not-star ha hb m) n (t-pi da db) = m (uniqueness (hb .typed) db)
-untyped (pi-over ha hb h) n d = n refl
-untyped (castup-annotation x) n (t-castup de da s) = untyped x n da
-untyped (castup-not-star ha m) n (t-castup de da s) = m (uniqueness (ha .typed) da)
-untyped (castup-body ha x) n (t-castup de da s) = untyped x n de
-untyped (castup-rests ha he m) n (t-castup de da s) = m (_, s)
-untyped (castup-step-over ha he s h) n d = n refl
-untyped (castup-mismatch ha he s h m) n (t-castup de da s′) = m (determinism s s′ ∙ uniqueness de (he .typed))
-untyped (castup-over ha he s h) n d = n refl
-untyped (castdown-body x) n (t-castdown de ds s) = untyped x n de
-untyped (castdown-rests he m) n (t-castdown de ds s) = m (subst CanStep (uniqueness de (he .typed)) (_, s))
-untyped (castdown-over he s h) n d = n refl
-untyped (mu-annotation x) n (t-mu de da) = untyped x n da
-untyped (mu-not-star ha m) n (t-mu de da) = m (uniqueness (ha .typed) da)
-untyped (mu-body ha x) n (t-mu de da) = untyped x n de
-untyped (mu-mismatch ha he m) n (t-mu de da) = m (uniqueness (he .typed) de)
-untyped (mu-over ha he h) n d = n refl
+pub no-type : {L : ℕ} {Γ : Context} {p q : ℕ} {e τ : Term} {r : Reason} → Fails L Γ p e r q → r ≢ over-limit → Γ ⊢ e ⦂ τ → ⊥
+no-type (star-over h) n d = n refl
+no-type (var-over v h) n d = n refl
+no-type (app-function x) n (t-app df du) = no-type x n df
+no-type (app-not-product hf m) n (t-app df du) = m _ _ (uniqueness (hf .typed) df)
+no-type (app-argument hf x) n (t-app df du) = no-type x n du
+no-type (app-mismatch hf hu m) n (t-app df du) = m (cc (uniqueness (hf .typed) df, uniqueness (hu .typed) du))
+no-type (app-over hf hu h) n d = n refl
+no-type (lam-annotation x) n (t-lam de (t-pi da db)) = no-type x n da
+no-type (lam-not-star ha m) n (t-lam de (t-pi da db)) = m (uniqueness (ha .typed) da)
+no-type (lam-body ha x) n (t-lam de dp) = no-type x n de
+no-type (lam-over ha he h) n d = n refl
+no-type (pi-domain x) n (t-pi da db) = no-type x n da
+no-type (pi-domain-not-star ha m) n (t-pi da db) = m (uniqueness (ha .typed) da)
+no-type (pi-codomain ha x) n (t-pi da db) = no-type x n db
+no-type (pi-codomain-not-star ha hb m) n (t-pi da db) = m (uniqueness (hb .typed) db)
+no-type (pi-over ha hb h) n d = n refl
+no-type (castup-annotation x) n (t-castup de da s) = no-type x n da
+no-type (castup-not-star ha m) n (t-castup de da s) = m (uniqueness (ha .typed) da)
+no-type (castup-body ha x) n (t-castup de da s) = no-type x n de
+no-type (castup-rests ha he m) n (t-castup de da s) = m (_, s)
+no-type (castup-step-over ha he s h) n d = n refl
+no-type (castup-mismatch ha he s h m) n (t-castup de da s′) = m (determinism s s′ ∙ uniqueness de (he .typed))
+no-type (castup-over ha he s h) n d = n refl
+no-type (castdown-body x) n (t-castdown de ds s) = no-type x n de
+no-type (castdown-rests he m) n (t-castdown de ds s) = m (subst CanStep (uniqueness de (he .typed)) (_, s))
+no-type (castdown-over he s h) n d = n refl
+no-type (mu-annotation x) n (t-mu de da) = no-type x n da
+no-type (mu-not-star ha m) n (t-mu de da) = m (uniqueness (ha .typed) da)
+no-type (mu-body ha x) n (t-mu de da) = no-type x n de
+no-type (mu-mismatch ha he m) n (t-mu de da) = m (uniqueness (he .typed) de)
+no-type (mu-over ha he h) n d = n refl
 
 pub fails-reason : {L : ℕ} {Γ : Context} {p q : ℕ} {e : Term} {r : Reason} → Fails L Γ p e r q → (10 ≤ number r) × (number r ≤ 16)
 unfolding number

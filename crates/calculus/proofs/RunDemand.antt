@@ -13,10 +13,10 @@ use Rattle.calculus.specs.Words.{longest}
 use Rattle.calculus.specs.Reading.{read}
 use Rattle.calculus.specs.Outcomes.{run-room, Ran, course, ran, run}
 use Rattle.calculus.specs.Runs.{Runs, work-refused, state-refused, unread, ended, Demand2-run, RunRefusals}
-use Rattle.calculus.proofs.Tests.{le-leb, gt-leb}
+use Rattle.calculus.proofs.Comparisons.{le-leb, gt-leb}
+use Rattle.calculus.proofs.Says.{RefusedBy}
 use Rattle.calculus.proofs.ReadBack.{read-sound, read-exactly, read-reason}
 use Rattle.calculus.proofs.Courses.{run-course, course-answer}
-use Rattle.calculus.proofs.CheckDemand.{RefusedBy}
 
 module _ (ws : List ℕ) (budget allowance : ℕ) (W S : List ℕ) where
   pub run-answer : {c : Ran} → Runs ws budget allowance W S c → run ws budget allowance W S ≡ c

@@ -7,7 +7,7 @@ use mathlib.Core.Path.{_≡_, refl}
 use mathlib.Core.Logic.{_⊎_, inl, inr}
 use Rattle.calculus.specs.Term.{Term, app, lam, pi, castup, castdown, mu, substitute}
 use Rattle.calculus.specs.Rules.{Context, _⟶_, s-beta, s-castdownup, s-app, s-castdown, s-mu, CanStep, Value, v-star, v-lam, v-pi, v-castup, _⊢_⦂_, t-ax, t-var, t-app, t-lam, t-pi, t-castup, t-castdown, t-mu}
-use Rattle.calculus.specs.Safety.{Canonical}
+use Rattle.calculus.specs.Safety.{Only, Canonical}
 use Rattle.calculus.proofs.Bridge.{substitute-raise}
 use Rattle.calculus.proofs.Reduction.{determinism, value-rests}
 use Rattle.calculus.proofs.Substitution.{substitution}
@@ -97,9 +97,9 @@ progress (t-castdown e a s) = inr (castdown-progress e s (progress e))
 progress (t-mu {e = e} {τ = a} d q) = inr (substitute 0 (mu a e) e, s-mu)
 
 -- A closed typed term is a value or has exactly one next state, and never both.
-pub typed-next : {e τ : Term} → [] ⊢ e ⦂ τ → (Value e × ¬ CanStep e) ⊎ (¬ Value e × ((x : Term) × (e ⟶ x) × ((y : Term) → e ⟶ y → y ≡ x)))
+pub typed-next : {e τ : Term} → [] ⊢ e ⦂ τ → (Value e × ¬ CanStep e) ⊎ (¬ Value e × ((x : Term) × Only (λ y. e ⟶ y) x))
 typed-next {e} h = told (progress h)
   where
-    told : Value e ⊎ CanStep e → (Value e × ¬ CanStep e) ⊎ (¬ Value e × ((x : Term) × (e ⟶ x) × ((y : Term) → e ⟶ y → y ≡ x)))
+    told : Value e ⊎ CanStep e → (Value e × ¬ CanStep e) ⊎ (¬ Value e × ((x : Term) × Only (λ y. e ⟶ y) x))
     told (inl v) = inl (v, λ s. value-rests v (s .1))
-    told (inr (x, s)) = inr (λ v. value-rests v s, (x, s, λ y r. determinism r s))
+    told (inr (x, s)) = inr (λ v. value-rests v s, (x, (s, λ y r. determinism r s)))

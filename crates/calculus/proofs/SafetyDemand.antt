@@ -3,13 +3,13 @@
 use Prim.Native.Nat.{ℕ, _≤_, min}
 use mathlib.Core.Bool.{true≢false}
 use mathlib.Core.List.{List, []}
-use mathlib.Core.Logic.{_⊎_, inl, inr, ⊎-elim, _≢_}
+use mathlib.Core.Logic.{⊎-elim, _≢_}
 use mathlib.Core.Path.{_≡_, sym, _∙_, subst}
 use native.Mathlib.Decide.{decLe}
 use native.Mathlib.Omega.{arith}
 use Rattle.calculus.specs.Term.{Term, size}
 use Rattle.calculus.specs.Words.{words, Readable, longest}
-use Rattle.calculus.specs.Rules.{_⟶_, CanStep, Value, _⊢_⦂_}
+use Rattle.calculus.specs.Rules.{_⊢_⦂_}
 use Rattle.calculus.specs.Run.{State, state-zero, state-suc, End, at-stuck, Ends, ends-spent, ends-value, ends-stuck, ends-long}
 use Rattle.calculus.specs.Outcomes.{Ran, run}
 use Rattle.calculus.specs.Runs.{Runs, work-refused, state-refused, unread, ended}
@@ -19,7 +19,7 @@ use Rattle.calculus.proofs.ReadBack.{read-exactly}
 use Rattle.calculus.proofs.Types.{uniqueness}
 use Rattle.calculus.proofs.Safety.{preservation, progress, typed-next, canonical}
 use Rattle.calculus.proofs.Courses.{state-unique}
-use Rattle.calculus.proofs.CheckDemand.{accepted}
+use Rattle.calculus.proofs.Acceptance.{accepted}
 use Rattle.calculus.proofs.RunDemand.{run-runs}
 
 state-typed : {t x τ : Term} {k : ℕ} → [] ⊢ t ⦂ τ → State t k x → [] ⊢ x ⦂ τ
@@ -31,13 +31,8 @@ safe : {τ x : Term} → [] ⊢ x ⦂ τ → Safe τ x
 safe {τ} {x} d =
     record {
       type = λ σ. (λ e. uniqueness e d, λ e. subst (λ y. [] ⊢ x ⦂ y) (sym e) d);
-      progress = told (typed-next d);
+      progress = typed-next d;
     }
-  where
-    told : (Value x × ¬ CanStep x) ⊎ (¬ Value x × ((y : Term) × (x ⟶ y) × ((z : Term) → x ⟶ z → z ≡ y)))
-        → (Value x × ¬ CanStep x) ⊎ (¬ Value x × ((y : Term) × Only (λ z. x ⟶ z) y))
-    told (inl v) = inl v
-    told (inr (v, (y, s, u))) = inr (v, (y, (s, u)))
 
 not-stuck : {g n : ℕ} {x τ : Term} {E : End} → [] ⊢ x ⦂ τ → Ends g n x E → E ≢ at-stuck
 not-stuck d (ends-spent h) e = absurd (true≢false (cc e))

@@ -1,8 +1,8 @@
 -- What is known of an answer, by its two cases. What is known of each line of a do block is known of the block.
-use Prim.Native.Nat.{ℕ}
+use Prim.Native.Nat.{ℕ, _≤_}
 use mathlib.Core.Bool.{Bool, true, false}
 use lib.Dec.{T}
-use Rattle.calculus.specs.Answer.{Reason, Answer, ok, refused, _>>=_, _>>_, require}
+use Rattle.calculus.specs.Answer.{Reason, Answer, ok, refused, _>>=_, _>>_, require, number}
 
 -- Something with `P`, or a refusal whose reason and place have `Q`.
 pub data Says {A : Type 0} (P : A → Type 0) (Q : Reason → ℕ → Type 0) : Answer A → Type 0 where
@@ -41,3 +41,8 @@ pub says-require : {Q : Reason → ℕ → Type 0} (r : Reason) (p : ℕ) (b : B
 unfolding require
 says-require r p true h = says-ok tt
 says-require r p false h = says-refused h
+
+-- A refusal by a reason with a number from m to n; an answer is none.
+abbrev pub RefusedBy : {A : Type 0} → ℕ → ℕ → Answer A → Type 0
+RefusedBy m n (ok a) = Unit
+RefusedBy m n (refused r p) = (m ≤ number r) × (number r ≤ n)

@@ -9,20 +9,20 @@ use native.Mathlib.Omega.{arith}
 use lib.Dec.{T, ltb, ltb→lt, lit≤}
 use Rattle.calculus.specs.Term.{Term, app, lam, pi, castup, mu}
 use Rattle.calculus.specs.Words.{emit, levels, Scoped}
-use Rattle.calculus.specs.Answer.{Reason, ok, number, no-meaning, level-65, unbound}
+use Rattle.calculus.specs.Answer.{Reason, number, no-meaning, level-65, unbound}
 use Rattle.calculus.specs.Reading.{Meaning, a-star, a-castdown, an-app, a-castup, a-lam, a-pi, a-mu, a-variable, nothing, meaning, means, bound, binds, test, node, node₁, node₂, Pending, below, scan}
 use Rattle.calculus.proofs.Meanings.{word, word-meaning}
-use Rattle.calculus.proofs.Says.{Says, says-ok, says-refused, says-weaker, says-bind, says-then, says-require, of-ok}
+use Rattle.calculus.proofs.Says.{Says, says-ok, says-refused, says-weaker, says-bind, says-then, says-require}
 
--- A term that the pending subterm `s` can be.
-pub record Fits (s : Pending) (t : Term) : Type 0 where
+-- A term that may stand where the pending subterm `s` is awaited.
+pub record Fills (s : Pending) (t : Term) : Type 0 where
   pub scoped : Scoped (s .binders) t
   pub within : levels t ≤ s .room
 
 -- One term for each pending subterm.
-pub data Fit : List Pending → List Term → Type 0 where
-  fit-none : Fit [] []
-  fit-one : {s : Pending} {t : Term} {ss : List Pending} {ts : List Term} → Fits s t → Fit ss ts → Fit (s ∷ ss) (t ∷ ts)
+pub data Filled : List Pending → List Term → Type 0 where
+  filled-none : Filled [] []
+  filled-one : {s : Pending} {t : Term} {ss : List Pending} {ts : List Term} → Fills s t → Filled ss ts → Filled (s ∷ ss) (t ∷ ts)
 
 -- The words of terms, one after another.
 unfoldable pub emits : List Term → List ℕ
@@ -30,22 +30,22 @@ emits [] = []
 emits (t ∷ ts) = emit t (emits ts)
 
 -- A part of a node at `s` seen from the node: in scope there, and with room for the node above it.
-scoped₀ : (s : Pending) {t : Term} → Fits (below s 0) t → Scoped (s .binders) t
+scoped₀ : (s : Pending) {t : Term} → Fills (below s 0) t → Scoped (s .binders) t
 unfolding below
 scoped₀ s {t} h = subst (λ b. Scoped b t) (add-zero (s .binders)) (h .scoped)
 
-scoped₁ : (s : Pending) {t : Term} → Fits (below s 1) t → Scoped (suc (s .binders)) t
+scoped₁ : (s : Pending) {t : Term} → Fills (below s 1) t → Scoped (suc (s .binders)) t
 unfolding below
 scoped₁ s {t} h = subst (λ b. Scoped b t) (add-one (s .binders)) (h .scoped)
 
-within₁ : (s : Pending) (k : ℕ) {e : Term} → 0 < s .room → Fits (below s k) e → suc (levels e) ≤ s .room
+within₁ : (s : Pending) (k : ℕ) {e : Term} → 0 < s .room → Fills (below s k) e → suc (levels e) ≤ s .room
 unfolding below
 within₁ s k room he = omega (arith, he .within)
 
 within₂ : (s : Pending) (j k : ℕ) {a e : Term}
     → 0 < s .room
-    → Fits (below s j) a
-    → Fits (below s k) e
+    → Fills (below s j) a
+    → Fills (below s k) e
     → suc (max (levels a) (levels e)) ≤ s .room
 unfolding below
 within₂ s j k room ha he = omega (arith, ha .within, he .within)
@@ -55,22 +55,22 @@ made : (m : Meaning) (s : Pending) {ss : List Pending} {ts : List Term}
     → T (means m)
     → 0 < s .room
     → T (bound m (s .binders))
-    → Fit (map (below s) (binds m) ++ ss) ts
-    → (emits (node m ts) ≡ word m ∷ emits ts) × Fit (s ∷ ss) (node m ts)
+    → Filled (map (below s) (binds m) ++ ss) ts
+    → (emits (node m ts) ≡ word m ∷ emits ts) × Filled (s ∷ ss) (node m ts)
 unfolding emits emit word node node₁ node₂ means bound binds levels Scoped
-made a-star s m room b h = (refl, fit-one (record { scoped = tt; within = room }) h)
-made a-castdown s m room b (fit-one he h) = (refl, fit-one (record { scoped = scoped₀ s he; within = within₁ s 0 room he }) h)
-made an-app s m room b (fit-one ha (fit-one he h)) =
-    (refl, fit-one {t = app _ _} (record { scoped = (scoped₀ s ha, scoped₀ s he); within = within₂ s 0 0 room ha he }) h)
-made a-castup s m room b (fit-one ha (fit-one he h)) =
-    (refl, fit-one {t = castup _ _} (record { scoped = (scoped₀ s ha, scoped₀ s he); within = within₂ s 0 0 room ha he }) h)
-made a-lam s m room b (fit-one ha (fit-one he h)) =
-    (refl, fit-one {t = lam _ _} (record { scoped = (scoped₀ s ha, scoped₁ s he); within = within₂ s 0 1 room ha he }) h)
-made a-pi s m room b (fit-one ha (fit-one he h)) =
-    (refl, fit-one {t = pi _ _} (record { scoped = (scoped₀ s ha, scoped₁ s he); within = within₂ s 0 1 room ha he }) h)
-made a-mu s m room b (fit-one ha (fit-one he h)) =
-    (refl, fit-one {t = mu _ _} (record { scoped = (scoped₀ s ha, scoped₁ s he); within = within₂ s 0 1 room ha he }) h)
-made (a-variable i) s m room b h = (refl, fit-one (record { scoped = ltb→lt i (s .binders) b; within = room }) h)
+made a-star s m room b h = (refl, filled-one (record { scoped = tt; within = room }) h)
+made a-castdown s m room b (filled-one he h) = (refl, filled-one (record { scoped = scoped₀ s he; within = within₁ s 0 room he }) h)
+made an-app s m room b (filled-one ha (filled-one he h)) =
+    (refl, filled-one {t = app _ _} (record { scoped = (scoped₀ s ha, scoped₀ s he); within = within₂ s 0 0 room ha he }) h)
+made a-castup s m room b (filled-one ha (filled-one he h)) =
+    (refl, filled-one {t = castup _ _} (record { scoped = (scoped₀ s ha, scoped₀ s he); within = within₂ s 0 0 room ha he }) h)
+made a-lam s m room b (filled-one ha (filled-one he h)) =
+    (refl, filled-one {t = lam _ _} (record { scoped = (scoped₀ s ha, scoped₁ s he); within = within₂ s 0 1 room ha he }) h)
+made a-pi s m room b (filled-one ha (filled-one he h)) =
+    (refl, filled-one {t = pi _ _} (record { scoped = (scoped₀ s ha, scoped₁ s he); within = within₂ s 0 1 room ha he }) h)
+made a-mu s m room b (filled-one ha (filled-one he h)) =
+    (refl, filled-one {t = mu _ _} (record { scoped = (scoped₀ s ha, scoped₁ s he); within = within₂ s 0 1 room ha he }) h)
+made (a-variable i) s m room b h = (refl, filled-one (record { scoped = ltb→lt i (s .binders) b; within = room }) h)
 made nothing s m room b h = elim m [ ]
 
 -- The reasons why a list of words is no term, by their numbers.
@@ -91,9 +91,9 @@ test-says m s p =
     says-weaker (says-require unbound p (bound m (s .binders)) (lit≤ tt, lit≤ tt)) λ _ inside.
     record { meant = meant; roomy = ltb→lt 0 (s .room) roomy; inside = inside }
 
-pub scan-says : (ws : List ℕ) (ss : List Pending) (p : ℕ) → Says (λ ts. (ws ≡ emits ts) × Fit ss ts) No-term (scan ws ss p)
+pub scan-says : (ws : List ℕ) (ss : List Pending) (p : ℕ) → Says (λ ts. (ws ≡ emits ts) × Filled ss ts) No-term (scan ws ss p)
 unfolding scan emits number
-scan-says [] [] p = says-ok (refl, fit-none)
+scan-says [] [] p = says-ok (refl, filled-none)
 scan-says [] (s ∷ ss) p = says-refused (lit≤ tt, lit≤ tt)
 scan-says (w ∷ ws) [] p = says-refused (lit≤ tt, lit≤ tt)
 scan-says (w ∷ ws) (s ∷ ss) p =
@@ -101,6 +101,3 @@ scan-says (w ∷ ws) (s ∷ ss) p =
     says-bind (scan-says ws (map (below s) (binds (meaning w)) ++ ss) (suc p)) λ ts h.
     let here = made (meaning w) s (t .meant) (t .roomy) (t .inside) (h .1) in
     says-ok (ap₂ _∷_ (sym (word-meaning w (t .meant))) (h .0) ∙ sym (here .0), here .1)
-
-pub scan-sound : (ws : List ℕ) (ss : List Pending) (p : ℕ) (ts : List Term) → scan ws ss p ≡ ok ts → (ws ≡ emits ts) × Fit ss ts
-scan-sound ws ss p ts e = of-ok (rw e at (scan-says ws ss p))

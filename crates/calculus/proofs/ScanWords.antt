@@ -12,9 +12,9 @@ use Rattle.calculus.specs.Term.{Term, var, star, app, lam, pi, castup, c
 use Rattle.calculus.specs.Words.{emit, levels, Scoped}
 use Rattle.calculus.specs.Answer.{Answer, ok, refused, _>>=_, _>>_, require}
 use Rattle.calculus.specs.Reading.{Meaning, a-star, a-castdown, an-app, a-castup, a-lam, a-pi, a-mu, a-variable, means, bound, binds, test, node, node₁, node₂, Pending, below, scan}
-use Rattle.calculus.proofs.Tests.{passed, le-leb}
+use Rattle.calculus.proofs.Comparisons.{passed, le-leb}
 use Rattle.calculus.proofs.Meanings.{word, Indexed, meaning-word}
-use Rattle.calculus.proofs.ScanSound.{Fits}
+use Rattle.calculus.proofs.ScanSound.{Fills}
 
 -- A word that passes its tests is followed by its parts and what comes after, and makes its node of what the scan of those gives.
 scan-word : (m : Meaning) (s : Pending) {n : ℕ}
@@ -34,7 +34,7 @@ Reads s t = (k : List ℕ) (ss : List Pending) (p : ℕ) → scan (emit t k) (s 
 
 -- So it is wherever `t` fits and each of its indices has a word.
 abbrev pub Readily : Term → Type 0
-Readily t = (s : Pending) → Fits s t → s .binders + levels t ≤ 2032 → Reads s t
+Readily t = (s : Pending) → Fills s t → s .binders + levels t ≤ 2032 → Reads s t
 
 -- A part of a node at `s`, which binds `j` variables in it and has `n` levels below its own.
 part : (s : Pending) (j n : ℕ) (t : Term)

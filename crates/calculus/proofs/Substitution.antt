@@ -3,36 +3,31 @@
 use Prim.Native.Nat.{ℕ}
 use mathlib.Core.List.{_∷_}
 use Rattle.calculus.specs.Term.{Term, raise, substitute}
-use Rattle.calculus.specs.Rules.{Context, _⟶_, _∋_⦂_, here, there, WellFormed, _⊢_⦂_, t-var}
+use Rattle.calculus.specs.Rules.{Context, _∋_⦂_, here, there, WellFormed, _⊢_⦂_, t-var}
 use Rattle.calculus.proofs.Parallel.{lift, sub}
 use Rattle.calculus.proofs.Bridge.{raise-moves, sub-raise, single, substitute-is-sub, substitute-raise}
-use Rattle.calculus.proofs.Reduction.{step-sub}
 use Rattle.calculus.proofs.Along.{Carries, along}
 use Rattle.calculus.proofs.Thinning.{thinning, well-formed}
 
 -- `σ` puts in, for each variable of Γ, a term that has its type in Δ.
-abbrev pub Fits : (ℕ → Term) → Context → Context → Type 0
-Fits σ Γ Δ = (i : ℕ) (τ : Term) → Γ ∋ i ⦂ τ → Δ ⊢ σ i ⦂ sub σ τ
+abbrev pub WellTyped : (ℕ → Term) → Context → Context → Type 0
+WellTyped σ Γ Δ = (i : ℕ) (τ : Term) → Γ ∋ i ⦂ τ → Δ ⊢ σ i ⦂ sub σ τ
 
-fits-under : {σ : ℕ → Term} {Γ Δ : Context} {a : Term} → Fits σ Γ Δ → WellFormed (sub σ a ∷ Δ) → Fits (lift σ) (a ∷ Γ) (sub σ a ∷ Δ)
+well-typed-under : {σ : ℕ → Term} {Γ Δ : Context} {a : Term} → WellTyped σ Γ Δ → WellFormed (sub σ a ∷ Δ) → WellTyped (lift σ) (a ∷ Γ) (sub σ a ∷ Δ)
 unfolding lift
-fits-under {σ} p w i t (here {τ = τ}) = rw (sub-raise σ τ) (t-var w here)
-fits-under {σ} p w i t (there {τ = τ} {i = k} x) = rw (sub-raise σ τ, ← raise-moves (σ k)) (thinning (p k τ x) w)
+well-typed-under {σ} p w i t (here {τ = τ}) = rw (sub-raise σ τ) (t-var w here)
+well-typed-under {σ} p w i t (there {τ = τ} {i = k} x) = rw (sub-raise σ τ, ← raise-moves (σ k)) (thinning (p k τ x) w)
 
-pub substitution-along : {σ : ℕ → Term} {Γ Δ : Context} {e τ : Term} → Γ ⊢ e ⦂ τ → Fits σ Γ Δ → WellFormed Δ → Δ ⊢ sub σ e ⦂ sub σ τ
+pub substitution-along : {σ : ℕ → Term} {Γ Δ : Context} {e τ : Term} → Γ ⊢ e ⦂ τ → WellTyped σ Γ Δ → WellFormed Δ → Δ ⊢ sub σ e ⦂ sub σ τ
 substitution-along h p w = along carries p w h
   where
-    carries : Carries Fits
-    carries = record { at-variable = λ {i} {τ} p w x. p i τ x; under-binder = fits-under }
+    carries : Carries WellTyped
+    carries = record { at-variable = λ {i} {τ} p w x. p i τ x; under-binder = well-typed-under }
 
 pub substitution : {Γ : Context} {e τ u σ : Term} → (σ ∷ Γ) ⊢ e ⦂ τ → Γ ⊢ u ⦂ σ → Γ ⊢ substitute 0 u e ⦂ substitute 0 u τ
 unfolding single
 substitution {Γ} {e} {τ} {u} {σ} h a = rw (substitute-is-sub u e, substitute-is-sub u τ) (substitution-along h fits (well-formed a))
   where
-    fits : Fits (single u) (σ ∷ Γ) Γ
+    fits : WellTyped (single u) (σ ∷ Γ) Γ
     fits i t (here {τ = b}) = rw (← substitute-is-sub u (raise 1 0 b), substitute-raise u b) a
     fits i t (there {τ = b} {i = k} x) = rw (← substitute-is-sub u (raise 1 0 b), substitute-raise u b) (t-var (well-formed a) x)
-
--- A step is the same step with a term put in.
-pub step-substitute : {e x : Term} (u : Term) → e ⟶ x → substitute 0 u e ⟶ substitute 0 u x
-step-substitute {e} {x} u h = rw (substitute-is-sub u e, substitute-is-sub u x) (step-sub (single u) h)

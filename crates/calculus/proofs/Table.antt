@@ -4,7 +4,6 @@ use Prim.Native.Nat.{ℕ, zero, suc, _≤_, min}
 use mathlib.Core.Bool.{Bool, true, false, _&&_, decide}
 use mathlib.Core.List.{List, [], _∷_}
 use mathlib.Core.Path.{_≡_, refl, sym, _∙_, ap, ap₂, subst₂}
-use native.Mathlib.Decide.{ℕ-discrete}
 use native.Mathlib.Omega.{arith}
 use lib.Dec.{T, leb, eqb, leb→le, eqb→eq}
 use Rattle.calculus.specs.Term.{Term, size, raise, substitute}
@@ -21,9 +20,9 @@ use Rattle.calculus.specs.Runs.{ended}
 use Rattle.calculus.specs.Starred.{Row, types, refuses, ends, spins, Claim, Claims, starred, StarredTerms}
 use Rattle.calculus.proofs.Coding.{words-length, words-injective}
 use Rattle.calculus.proofs.ReadBack.{read-sound}
-use Rattle.calculus.proofs.Reduction.{next-step}
+use Rattle.calculus.proofs.Stepping.{next-step}
 use Rattle.calculus.proofs.Inference.{infer-sound, refused-sound}
-use Rattle.calculus.proofs.Refusals.{untyped as no-type}
+use Rattle.calculus.proofs.Refusals.{no-type}
 use Rattle.calculus.proofs.NumberInjective.{number-injective, end-number-injective}
 use Rattle.calculus.proofs.Courses.{Course, state-unique, run-course}
 use Rattle.calculus.proofs.CheckDemand.{check-answer}
@@ -225,5 +224,5 @@ rows-claim (r ∷ rs) h =
     (row-claim r i, rows-claim rs j)
 
 pub starred-terms : StarredTerms
-unfolding rows-hold row-holds same-words on-answer refused-by on-next allowed ended-by read scan test means meaning bound binds node node₁ node₂ below the-first _>>=_ _>>_ require number infer annotation measure product stepped same decide ℕ-discrete size raise substitute step under applied cancelled words emit run-from advance stop one-more end-number
+unfolding rows-hold row-holds same-words on-answer refused-by on-next allowed ended-by read scan test means meaning bound binds node node₁ node₂ below the-first _>>=_ _>>_ require number infer annotation measure product stepped same decide size raise substitute step under applied cancelled words emit run-from advance stop one-more end-number
 starred-terms = rows-claim starred tt

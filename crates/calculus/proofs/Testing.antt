@@ -4,14 +4,13 @@ use Prim.Native.Nat.{ℕ, _≤_, _<_}
 use mathlib.Core.Bool.{true, false, decide, decide-iff}
 use mathlib.Core.Logic.{_≢_}
 use mathlib.Core.Path.{_≡_, refl, ap}
-use native.Mathlib.Decide.{ℕ-discrete}
-use Rattle.calculus.specs.Term.{Term, Term-discrete, var, star, app, lam, pi, castup, castdown, mu, size, raise}
+use Rattle.calculus.specs.Term.{Term, var, star, app, lam, pi, castup, castdown, mu, size, raise}
 use Rattle.calculus.specs.Answer.{ok, refused, _>>=_, _>>_, require, not-product, no-step, over-limit}
 use Rattle.calculus.specs.Rules.{Context, _⟶_, CanStep, _∋_⦂_, here, there}
 use Rattle.calculus.specs.Step.{Next, step}
 use Rattle.calculus.specs.Infer.{annotation, same, measure, product, stepped}
-use Rattle.calculus.proofs.Tests.{le-leb, gt-leb}
-use Rattle.calculus.proofs.Reduction.{step-next, Says, says-value, says-stuck, says-next, step-says}
+use Rattle.calculus.proofs.Comparisons.{le-leb, gt-leb}
+use Rattle.calculus.proofs.Stepping.{step-next, Finds, finds-value, finds-stuck, finds-next, step-finds}
 
 decide-no : {P : Type 0} (d : Dec P) → ¬ P → decide d ≡ false
 unfolding decide
@@ -20,19 +19,19 @@ decide-no (no _) n = refl
 
 pub equal : (τ : Term) → same τ τ ≡ true
 unfolding same
-equal τ = decide-iff (Term-discrete ℕ-discrete τ τ) .1 refl
+equal τ = decide-iff _ .1 refl
 
 pub unequal : {σ τ : Term} → σ ≢ τ → same σ τ ≡ false
 unfolding same
-unequal {σ} {τ} n = decide-no (Term-discrete ℕ-discrete σ τ) n
+unequal n = decide-no _ n
 
 pub fitting : {L : ℕ} (p : ℕ) (τ : Term) → size τ ≤ L → measure L p τ ≡ ok τ
 unfolding measure _>>_ _>>=_ require
-fitting {L} p τ h = rw (le-leb (size τ) L h) refl
+fitting {L} p τ h = ap (λ b. require over-limit p b >> ok τ) (le-leb (size τ) L h)
 
 pub over : {L : ℕ} (p : ℕ) (τ : Term) → L < size τ → measure L p τ ≡ refused over-limit p
 unfolding measure _>>_ _>>=_ require
-over {L} p τ h = rw (gt-leb (size τ) L h) refl
+over {L} p τ h = ap (λ b. require over-limit p b >> ok τ) (gt-leb (size τ) L h)
 
 pub no-product : (p : ℕ) {τ : Term} → ((a b : Term) → τ ≢ pi a b) → product p τ ≡ refused not-product p
 unfolding product
@@ -51,12 +50,12 @@ steps p s = ap (stepped p) (step-next s)
 
 pub rests : (p : ℕ) {τ : Term} → ¬ CanStep τ → stepped p (step τ) ≡ refused no-step p
 unfolding stepped
-rests p {τ} n = at (step-says τ)
+rests p {τ} n = at (step-finds τ)
   where
-    at : {x : Next} → Says τ x → stepped p x ≡ refused no-step p
-    at (says-value v) = refl
-    at (says-stuck _ _) = refl
-    at (says-next s) = absurd (n (_, s))
+    at : {x : Next} → Finds τ x → stepped p x ≡ refused no-step p
+    at (finds-value v) = refl
+    at (finds-stuck _ _) = refl
+    at (finds-next s) = absurd (n (_, s))
 
 pub annotation-of : {Γ : Context} {i : ℕ} {τ : Term} → Γ ∋ i ⦂ τ → annotation Γ i ≡ τ
 unfolding annotation

@@ -2,7 +2,7 @@
 -- with the same types, perhaps at other places. A renaming is a substitution of variables, so this is `along`.
 use Prim.Native.Nat.{ℕ, zero, suc}
 use mathlib.Core.List.{_∷_}
-use mathlib.Core.Path.{_≡_, refl, ap}
+use mathlib.Core.Path.{_≡_, refl, sym, ap, subst}
 use Rattle.calculus.specs.Term.{Term, var, raise}
 use Rattle.calculus.specs.Rules.{Context, _∋_⦂_, here, there, WellFormed, _⊢_⦂_, t-ax, t-var, t-app, t-lam, t-pi, t-castup, t-castdown, t-mu}
 use Rattle.calculus.proofs.Parallel.{traverse, rename, lift, sub, rename-is-sub}
@@ -29,9 +29,9 @@ variable-typed {i = i} {τ = τ} p w x = let (j, q, y) = p i τ x in rw q (t-var
 variables-under : {σ : ℕ → Term} {Γ Δ : Context} {a : Term} → ToVariables σ Γ Δ → ToVariables (lift σ) (a ∷ Γ) (sub σ a ∷ Δ)
 unfolding lift rename traverse
 variables-under {σ} p i t (here {τ = τ}) = (zero, refl, rw (sub-raise σ τ) here)
-variables-under {σ} p i t (there {τ = τ} {i = k} x) =
+variables-under {σ} {Δ = Δ} {a} p i t (there {τ = τ} {i = k} x) =
     let (j, q, y) = p k τ x in
-    (suc j, ap (rename suc) q, rw (sub-raise σ τ) (there y))
+    (suc j, ap (rename suc) q, subst (λ b. (sub σ a ∷ Δ) ∋ suc j ⦂ b) (sym (sub-raise σ τ)) (there y))
 
 -- `ρ` takes the variables of Γ to variables of Δ that have the same types.
 abbrev pub Thins : (ℕ → ℕ) → Context → Context → Type 0

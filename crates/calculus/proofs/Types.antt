@@ -1,10 +1,8 @@
--- The type of a term: it has type star itself (document 002, Lemma B.5), it is the only one, and the term stands in the scope of its
--- context (Lemma B.1; its type too, being typed itself). Each by induction on the derivation.
-use Prim.Native.Nat.{ℕ, _<_, zero-le, suc-le-suc}
+-- The type of a term: it has type star itself (document 002, Lemma B.5), and it is the only one. Each by induction on the derivation:
+-- the node fixes the rule, the rule the type; a down cast needs besides that a type has at most one step.
+use Prim.Native.Nat.{ℕ}
 use mathlib.Core.Path.{_≡_, refl, sym, ap, subst}
-use lib.ListN.{length}
 use Rattle.calculus.specs.Term.{Term, star, pi, raise, substitute}
-use Rattle.calculus.specs.Words.{Scoped}
 use Rattle.calculus.specs.Rules.{Context, _⟶_, _∋_⦂_, here, there, WellFormed, env-var, _⊢_⦂_, t-ax, t-var, t-app, t-lam, t-pi, t-castup, t-castdown, t-mu}
 use Rattle.calculus.proofs.Reduction.{determinism}
 use Rattle.calculus.proofs.Along.{product-typed}
@@ -27,7 +25,7 @@ correctness (t-castup e a s) = a
 correctness (t-castdown e a s) = a
 correctness (t-mu e a) = a
 
-pub lookup-unique : {Γ : Context} {i : ℕ} {σ τ : Term} → Γ ∋ i ⦂ σ → Γ ∋ i ⦂ τ → σ ≡ τ
+lookup-unique : {Γ : Context} {i : ℕ} {σ τ : Term} → Γ ∋ i ⦂ σ → Γ ∋ i ⦂ τ → σ ≡ τ
 lookup-unique here here = refl
 lookup-unique (there x) (there y) = ap (raise 1 0) (lookup-unique x y)
 
@@ -43,18 +41,3 @@ uniqueness (t-pi a b) (t-pi c d) = refl
 uniqueness (t-castup e a s) (t-castup d b r) = refl
 uniqueness (t-castdown e a s) (t-castdown {τ₂ = τ} d b r) = determinism s (subst (λ t. t ⟶ τ) (sym (uniqueness e d)) r)
 uniqueness (t-mu e a) (t-mu d b) = refl
-
-lookup-scoped : {Γ : Context} {i : ℕ} {τ : Term} → Γ ∋ i ⦂ τ → i < length Γ
-lookup-scoped here = suc-le-suc zero-le
-lookup-scoped (there x) = suc-le-suc (lookup-scoped x)
-
-pub scoped : {Γ : Context} {e τ : Term} → Γ ⊢ e ⦂ τ → Scoped (length Γ) e
-unfolding Scoped
-scoped (t-ax w) = tt
-scoped (t-var w x) = lookup-scoped x
-scoped (t-app f u) = (scoped f, scoped u)
-scoped (t-lam e p) = (scoped p .0, scoped e)
-scoped (t-pi a b) = (scoped a, scoped b)
-scoped (t-castup e a s) = (scoped a, scoped e)
-scoped (t-castdown e a s) = scoped e
-scoped (t-mu e a) = (scoped a, scoped e)
