@@ -1,0 +1,9 @@
+-- The laws behind the functions' proofs, and those that callers of this crate use.
+pub mod Words
+pub mod Visits
+pub mod Walking
+pub mod Skimming
+pub mod Turns
+pub mod Whole
+pub mod Finding
+pub mod Reasons

@@ -1,0 +1,63 @@
+-- What the words of each range mean, and how many parts follow them: the table of the calculus has a row for each word below 7, the
+-- words from 16 to 2,047 are variables, and every other word means nothing. A word from 7 on has no parts, whatever it means.
+use Prim.Native.Nat.{ℕ, zero, suc, _-_, _≤_, _<_}
+use mathlib.Core.Bool.{Bool, true, false, cond}
+use mathlib.Core.List.{List, [], _∷_}
+use mathlib.Core.Path.{_≡_, refl}
+use native.Mathlib.Omega.{arith}
+use borrow.Author.Tests.{lt-ltb, le-ltb}
+use lib.Dec.{ltb, lit≤}
+use lib.ListN.{length, getD, List·getD-eq-default}
+use Rattle.calculus.specs.Reading.{Meaning, a-star, a-castdown, an-app, a-castup, a-lam, a-pi, a-mu, a-variable, nothing, binds, meaning}
+use Rattle.term.specs.Word.{arity, parts-table}
+
+-- The meanings of words 0–6.
+abbrev table : List Meaning
+table = a-star ∷ a-castdown ∷ an-app ∷ a-castup ∷ a-lam ∷ a-pi ∷ a-mu ∷ []
+
+pub gap : (w : ℕ) → 7 ≤ w → w < 16 → meaning w ≡ nothing
+unfolding meaning
+gap w low high = rw (lt-ltb w 16 high) (List·getD-eq-default table nothing low)
+
+pub variable : (w : ℕ) → 16 ≤ w → w < 2048 → meaning w ≡ a-variable (w - 16)
+unfolding meaning
+variable w low high = rw (le-ltb w 16 low, lt-ltb w 2048 high)
+
+pub beyond : (w : ℕ) → 2048 ≤ w → meaning w ≡ nothing
+unfolding meaning
+beyond w low = rw (le-ltb w 16 (omega arith), le-ltb w 2048 low)
+
+pub row : (w : ℕ) → w < 7 → arity w ≡ getD parts-table w 0
+unfolding arity meaning binds
+row zero h = refl
+row (suc zero) h = refl
+row (suc (suc zero)) h = refl
+row (suc (suc (suc zero))) h = refl
+row (suc (suc (suc (suc zero)))) h = refl
+row (suc (suc (suc (suc (suc zero))))) h = refl
+row (suc (suc (suc (suc (suc (suc zero)))))) h = refl
+row (suc (suc (suc (suc (suc (suc (suc w))))))) h = absurd (omega arith)
+
+pub no-parts : (w : ℕ) → 7 ≤ w → arity w ≡ 0
+unfolding arity meaning binds
+no-parts w low = rw (List·getD-eq-default table nothing low) (either (ltb w 16) (ltb w 2048))
+  where
+    either : (b c : Bool) → length (binds (cond b nothing (cond c (a-variable (w - 16)) nothing))) ≡ 0
+    either true c = refl
+    either false true = refl
+    either false false = refl
+
+pub two-at-most : (w : ℕ) → arity w ≤ 2
+unfolding arity binds
+two-at-most w = at (meaning w)
+  where
+    at : (m : Meaning) → length (binds m) ≤ 2
+    at a-star = lit≤ tt
+    at a-castdown = lit≤ tt
+    at an-app = lit≤ tt
+    at a-castup = lit≤ tt
+    at a-lam = lit≤ tt
+    at a-pi = lit≤ tt
+    at a-mu = lit≤ tt
+    at (a-variable i) = lit≤ tt
+    at nothing = lit≤ tt

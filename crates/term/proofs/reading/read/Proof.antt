@@ -1,0 +1,65 @@
+-- `read` meets its contract: by the length of the list, and otherwise by what skimming it for one closed term of 64 levels answers.
+use mathlib.Core.Path.{sym, ap, _∙_}
+use native.Mathlib.Nat.{pos-of-ne-zero}
+use borrow.Author.Needs.{needs}
+use Rattle.term.specs.Subterms.{subterm-of}
+use Rattle.term.proofs.Whole.{read-empty, read-long, read-refused, read-over, read-whole}
+use Rattle.term.proofs.reading.read.Statement.{statement}
+use Rattle.term.proofs.reading.read.Tie as tie
+
+returns : tie.Need-returns
+returns c = read-empty _ (c .if1 .taken)
+
+returns-2 : tie.Need-returns-2
+returns-2 c = read-long _ (c .if2 .taken)
+
+read-subterm-requires : tie.Need-read-subterm-requires
+read-subterm-requires c κs = search needs
+
+enum-known-refusal : tie.Need-enum-known-refusal
+enum-known-refusal c = search needs
+
+enum-known-end : tie.Need-enum-known-end
+enum-known-end c = search needs
+
+returns-3 : tie.Need-returns-3
+returns-3 c =
+    let r = c .before .before .before .before in
+    read-over
+    _
+    (pos-of-ne-zero (r .before .before .if1 .left))
+    (r .before .if2 .left)
+    (ap subterm-of (sym (c .before .before .end .given .1)) ∙ r .read-subterm .ensures)
+    (c .if3 .taken)
+
+returns-4 : tie.Need-returns-4
+returns-4 c =
+    let r = c .before .before .before in
+    read-refused
+    _
+    (pos-of-ne-zero (r .before .before .if1 .left))
+    (r .before .if2 .left)
+    (ap subterm-of (sym (c .before .refusal .given .1)) ∙ r .read-subterm .ensures)
+
+returns-5 : tie.Need-returns-5
+returns-5 c =
+    let r = c .before .before .before .before in
+    read-whole
+    _
+    (pos-of-ne-zero (r .before .before .if1 .left))
+    (r .before .if2 .left)
+    (ap subterm-of (sym (c .before .before .end .given .1)) ∙ r .read-subterm .ensures)
+    (c .if3 .left)
+
+pub read-spec : {M : Type 1} → statement M
+read-spec =
+    tie.close
+    (tie.spec
+    returns
+    returns-2
+    read-subterm-requires
+    enum-known-refusal
+    enum-known-end
+    returns-3
+    returns-4
+    returns-5)

@@ -1,0 +1,26 @@
+-- What the enum of a word's meaning stands for, and how many parts follow a word.
+use Prim.Native.Nat.{ℕ}
+use mathlib.Core.List.{List, [], _∷_}
+use lib.ListN.{length}
+use Rattle.calculus.specs.Reading as calculus
+use Rattle.term.specs.declared.word.Meaning.{Meaning}
+use Rattle.term.specs.declared.word.Meaning.the-variants.{Star, CastDown, Application, CastUp, Abstraction, Product, Recursion, Variable, Nothing}
+
+abbrev pub meaning-of : Meaning → calculus.Meaning
+meaning-of Star = calculus.a-star
+meaning-of CastDown = calculus.a-castdown
+meaning-of Application = calculus.an-app
+meaning-of CastUp = calculus.a-castup
+meaning-of Abstraction = calculus.a-lam
+meaning-of Product = calculus.a-pi
+meaning-of Recursion = calculus.a-mu
+meaning-of (Variable i) = calculus.a-variable i
+meaning-of Nothing = calculus.nothing
+
+-- The number of parts that follow a word.
+unfoldable pub arity : ℕ → ℕ
+arity w = length (calculus.binds (calculus.meaning w))
+
+-- The constant table of the code: words 0–6, and a row for every other word.
+abbrev pub parts-table : List ℕ
+parts-table = 0 ∷ 1 ∷ 2 ∷ 2 ∷ 2 ∷ 2 ∷ 2 ∷ 0 ∷ []

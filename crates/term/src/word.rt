@@ -1,0 +1,46 @@
+// What a word means.
+ghost use mathlib.Core.Path.{_≡_};
+ghost use Rattle.calculus.specs.Reading.{meaning};
+ghost use Rattle.term.specs.Word.{arity, meaning-of, parts-table};
+
+pub enum Meaning {
+    Star,
+    CastDown,
+    Application,
+    CastUp,
+    Abstraction,
+    Product,
+    Recursion,
+    Variable(u16),
+    Nothing,
+}
+
+// The one decision over a word.
+pub fn classify(word: u16) -> Meaning
+    ensures { λ r. ⌜ meaning-of r ≡ meaning word ⌝ }
+{
+    match word {
+        0 => Meaning::Star,
+        1 => Meaning::CastDown,
+        2 => Meaning::Application,
+        3 => Meaning::CastUp,
+        4 => Meaning::Abstraction,
+        5 => Meaning::Product,
+        6 => Meaning::Recursion,
+        7..=15 => Meaning::Nothing,
+        16..=2047 => Meaning::Variable(word - 16),
+        _ => Meaning::Nothing,
+    }
+}
+
+// The number of parts of words 0–6; the last row is for every other word.
+pub const PARTS: [u8; 8] = [0, 1, 2, 2, 2, 2, 2, 0];
+
+// How many parts follow a word. The caller lends the table, since a constant is laid down anew at each use.
+pub fn parts(table: &[u8; 8], word: u16) -> usize
+    requires { ⌜ now table ≡ parts-table ⌝ }
+    ensures { λ r. ⌜ r ≡ arity word ⌝ }
+{
+    let row = if word < 7 { word as usize } else { 7 };
+    table[row] as usize
+}
