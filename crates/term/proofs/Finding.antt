@@ -1,5 +1,5 @@
 -- Where the parts of a term stand in its words. Behind a node's own word stand the words of its parts, one after another, as many as the
--- word says, so that the walk over the first finds the second.
+-- word says, so that the walk over the first finds the second. That the words found there are the part's is `part-words` of the calculus.
 use Prim.Native.Nat.{ℕ, zero, suc, _+_, _-_, _≤_, _<_}
 use mathlib.Core.List.{List, [], _∷_}
 use mathlib.Core.Path.{_≡_, refl, sym, _∙_}

@@ -1,5 +1,6 @@
 -- The walk over subterms. Over the words of a term it goes as far as the term is long, whatever follows: each word asks for just the
--- parts that stand behind it. The words of j + k subterms are those of j, and behind them those of k.
+-- parts that stand behind it. The words of j + k subterms are those of j, and behind them those of k. What reading accepts is such
+-- words, so the walk finds its way in every accepted list.
 use Prim.Native.Nat.{ℕ, zero, suc, _+_, _-_, _≤_, _<_}
 use mathlib.Core.List.{List, [], _∷_}
 use mathlib.Core.Path.{_≡_, refl, ap, _∙_}
@@ -91,7 +92,6 @@ pub span-words : (t : Term) → span (words t) 1 ≡ size t
 unfolding words
 span-words t = span-emit t []
 
--- What reading accepts is the words of a readable term.
 pub reads-term : (ws : List ℕ) → outcome (read ws) ≡ ok tt → (t : Term) × (ws ≡ words t) × Readable t
 reads-term ws h = on (read ws) refl h
   where
