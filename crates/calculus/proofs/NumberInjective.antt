@@ -1,6 +1,9 @@
--- The numbers of reasons and of ends tell them apart: each is found again at the place of its number in the list of all.
+-- The numbers of reasons and of ends tell them apart: each is found again at the place of its number in the list of all. No reason has
+-- the number 0.
 use mathlib.Core.List.{List, [], _∷_}
+use mathlib.Core.Logic.{_≢_}
 use mathlib.Core.Path.{_≡_, refl, sym, ap, _∙_}
+use native.Mathlib.Omega.{arith}
 use lib.ListN.{getD}
 use Rattle.calculus.specs.Answer.{Reason, limit-not-allowed, work-short, output-short, length-not-allowed, no-meaning, list-ends, words-after, level-65, unbound, not-star, not-product, wrong-argument, no-step, wrong-cast, wrong-recursion, over-limit, number}
 use Rattle.calculus.specs.Run.{End, at-value, spent, at-stuck, too-long, end-number}
@@ -52,6 +55,11 @@ reason-found over-limit = refl
 
 pub number-injective : (r s : Reason) → number r ≡ number s → r ≡ s
 number-injective = undone number (λ n. getD reasons n limit-not-allowed) reason-found
+
+-- A reason with the number 0 would be the first of the list, whose number is 1.
+pub number-not-zero : (r : Reason) → number r ≢ 0
+unfolding reasons number
+number-not-zero r e = omega (arith, ap number (sym (reason-found r) ∙ ap (λ n. getD reasons n limit-not-allowed) e))
 
 -- The ends from number 0 on; no end has the number 0.
 ends : List End

@@ -29,7 +29,7 @@ read-words t r = rw (words-length t, le-leb 1 (size t) (size-positive t), le-leb
     scanned : Reads whole t
     scanned = scan-term t whole (record { scoped = r .closed; within = r .shallow }) (omega (arith, r .shallow))
 
-second-test : (a b : Bool) → T (a && b) → T b
+pub second-test : (a b : Bool) → T (a && b) → T b
 second-test true b h = h
 second-test false b h = elim h [ ]
 

@@ -1,13 +1,32 @@
--- The type of a term: it has type star itself (document 002, Lemma B.5), and it is the only one. Each by induction on the derivation:
--- the node fixes the rule, the rule the type; a down cast needs besides that a type has at most one step.
-use Prim.Native.Nat.{ℕ}
+-- A typed term has no free variable but those of its context (document 002, Lemma B.1). Its type has type star itself (Lemma B.5), and
+-- it is the only one. Each by induction on the derivation: the node fixes the rule, the rule the type; a down cast needs besides that a
+-- type has at most one step.
+use Prim.Native.Nat.{ℕ, _<_}
 use mathlib.Core.Path.{_≡_, refl, sym, ap, subst}
 use Rattle.calculus.specs.Term.{Term, star, pi, raise, substitute}
+use native.Mathlib.Omega.{arith}
+use lib.ListN.{length}
+use Rattle.calculus.specs.Words.{Scoped}
 use Rattle.calculus.specs.Rules.{Context, _⟶_, _∋_⦂_, here, there, WellFormed, env-var, _⊢_⦂_, t-ax, t-var, t-app, t-lam, t-pi, t-castup, t-castdown, t-mu}
 use Rattle.calculus.proofs.Reduction.{determinism}
 use Rattle.calculus.proofs.Along.{product-typed}
 use Rattle.calculus.proofs.Thinning.{thinning}
 use Rattle.calculus.proofs.Substitution.{substitution}
+
+within : {Γ : Context} {i : ℕ} {τ : Term} → Γ ∋ i ⦂ τ → i < length Γ
+within here = omega arith
+within (there x) = let h = within x in omega arith
+
+pub scoped : {Γ : Context} {e τ : Term} → Γ ⊢ e ⦂ τ → Scoped (length Γ) e
+unfolding Scoped
+scoped (t-ax w) = tt
+scoped (t-var w x) = within x
+scoped (t-app f u) = (scoped f, scoped u)
+scoped (t-lam e p) = (scoped p .0, scoped e)
+scoped (t-pi a b) = (scoped a, scoped b)
+scoped (t-castup e a s) = (scoped a, scoped e)
+scoped (t-castdown e a s) = scoped e
+scoped (t-mu e a) = (scoped a, scoped e)
 
 annotation-typed : {Γ : Context} {i : ℕ} {τ : Term} → Γ ∋ i ⦂ τ → WellFormed Γ → Γ ⊢ τ ⦂ star
 unfolding raise

@@ -1,0 +1,71 @@
+-- What the two words that decide say of the redex, as the code sees them: the meaning of each is known by the number of its variant.
+use Prim.Native.Nat.{ℕ, zero, suc, _-_, _<_}
+use mathlib.Core.List.{List, []}
+use mathlib.Core.Path.{_≡_, refl, sym, ap, _∙_}
+use native.Mathlib.Numerals.{sub-one}
+use native.Mathlib.Omega.{arith}
+use lib.ListN.{length, getD}
+use types.Run.{OneOf}
+use Rattle.calculus.specs.Term.{Term}
+use Rattle.calculus.specs.Words.{words}
+use Rattle.calculus.specs.Reading.{meaning}
+use Rattle.term.specs.declared.word.Meaning.{Meaning}
+use Rattle.term.specs.Word.{meaning-of}
+use Rattle.term.proofs.Visits.{tag, Each}
+use Rattle.reduction.specs.declared.stepping.Redex.{Redex}
+use Rattle.reduction.specs.declared.stepping.Redex.the-variants.{Stuck}
+use Rattle.reduction.specs.Stepping.{Coded, locate, heads}
+use Rattle.reduction.proofs.WordKinds.{kind, kind-among}
+use Rattle.reduction.proofs.Heads.{outermost, framed, decide, decided, located, heads-inside}
+
+pub heads-within : {ws : List ℕ} {at : ℕ} → Coded ws → at ≡ heads ws → at < length ws
+unfolding words
+heads-within (t, coded) counted = rw (counted, coded) (heads-inside t [])
+
+by-place : (at w p : ℕ) {r : Redex}
+    → (at ≡ 0 → getD outermost w Stuck ≡ r)
+    → ((at ≡ 0 → ⊥) → getD (framed at (at - 1) p) w Stuck ≡ r)
+    → decide at w p ≡ r
+by-place zero w p root inner = root refl
+by-place (suc n) w p root inner =
+    ap (λ b. getD (framed (suc n) b p) w Stuck) (sym (sub-one (suc n))) ∙ inner λ z. omega arith
+
+module _ {ws : List ℕ} {at : ℕ} {r : Redex}
+    (m : Meaning) (ks : List ℕ) (counted : at ≡ heads ws)
+    (known : meaning-of m ≡ meaning (getD ws at 0)) (one : OneOf ks (tag m)) where
+  pub found : (at ≡ 0 → Each (λ k. getD outermost k Stuck ≡ r) ks)
+      → ((at ≡ 0 → ⊥) → Each (λ k. getD (framed at (at - 1) (kind (getD ws (at - 1) 0))) k Stuck ≡ r) ks)
+      → (t : Term)
+      → ws ≡ words t
+      → r ≡ locate t
+  unfolding words
+  found root inner t coded = sym (by-place at w p at-root at-inner) ∙ same ∙ sym (located t [])
+    where
+      w : ℕ
+      w = kind (getD ws at 0)
+
+      p : ℕ
+      p = kind (getD ws (at - 1) 0)
+
+      at-root : at ≡ 0 → getD outermost w Stuck ≡ r
+      at-root z = kind-among (λ k. getD outermost k Stuck ≡ r) m (getD ws at 0) ks known one (root z)
+
+      at-inner : (at ≡ 0 → ⊥) → getD (framed at (at - 1) p) w Stuck ≡ r
+      at-inner n = kind-among (λ k. getD (framed at (at - 1) p) k Stuck ≡ r) m (getD ws at 0) ks known one (inner n)
+
+      same : decide at w p ≡ decided (words t)
+      same = rw (sub-one at, counted, coded) refl
+
+  -- The same behind frames, where the word before is known too.
+  pub found-framed : (before : Meaning) (js : List ℕ)
+      → meaning-of before ≡ meaning (getD ws (at - 1) 0)
+      → OneOf js (tag before)
+      → (at ≡ 0 → ⊥)
+      → Each (λ p. Each (λ k. getD (framed at (at - 1) p) k Stuck ≡ r) ks) js
+      → (t : Term)
+      → ws ≡ words t
+      → r ≡ locate t
+  found-framed before js known-before one-before framing each =
+      found
+      (λ root. absurd (framing root))
+      (λ _. kind-among (λ p. Each (λ k. getD (framed at (at - 1) p) k Stuck ≡ r) ks) before (getD ws (at - 1) 0) js known-before one-before each)

@@ -1,0 +1,84 @@
+-- The kinds of words, one for each variant of the enum that a word is classified by, numbered as the variants are. Words below 7 have
+-- their own number; from 7 on a word is a variable or means nothing.
+use Prim.Native.Nat.{ℕ, zero, suc, _-_, _≤_}
+use mathlib.Core.Bool.{Bool, true, false, cond, _&&_}
+use mathlib.Core.List.{List, [], _∷_}
+use mathlib.Core.Path.{_≡_, refl, ap, _∙_, subst}
+use native.Mathlib.Omega.{arith}
+use borrow.Author.Tests.{le-leb, lt-leb}
+use lib.Dec.{ltb, leb}
+use lib.ListN.{List·getD-eq-default}
+use types.Run.{OneOf}
+use Rattle.calculus.specs.Reading as calculus
+use Rattle.calculus.specs.Reading.{a-star, a-castdown, an-app, a-castup, a-lam, a-pi, a-mu, a-variable, nothing, meaning}
+use Rattle.term.specs.declared.word.Meaning.{Meaning}
+use Rattle.term.specs.declared.word.Meaning.the-variants.{Star, CastDown, Application, CastUp, Abstraction, Product, Recursion, Variable, Nothing}
+use Rattle.term.specs.Word.{meaning-of}
+use Rattle.term.proofs.Visits.{tag, Each, at-one}
+
+abbrev index : calculus.Meaning → ℕ
+index a-star = 0
+index a-castdown = 1
+index an-app = 2
+index a-castup = 3
+index a-lam = 4
+index a-pi = 5
+index a-mu = 6
+index (a-variable i) = 7
+index nothing = 8
+
+unfoldable pub kind : ℕ → ℕ
+kind w = index (meaning w)
+
+tag-index : (m : Meaning) → tag m ≡ index (meaning-of m)
+tag-index Star = refl
+tag-index CastDown = refl
+tag-index Application = refl
+tag-index CastUp = refl
+tag-index Abstraction = refl
+tag-index Product = refl
+tag-index Recursion = refl
+tag-index (Variable i) = refl
+tag-index Nothing = refl
+
+-- A word that is classified by one of some variants: what holds of each of them holds of its kind.
+pub kind-among : (P : ℕ → Type 0) (m : Meaning) (w : ℕ) (ks : List ℕ)
+    → meaning-of m ≡ meaning w
+    → OneOf ks (tag m)
+    → Each P ks
+    → P (kind w)
+unfolding kind
+kind-among P m w ks known one each = subst P (tag-index m ∙ ap index known) (at-one P ks each (tag m) one)
+
+pub from-seven : (P : ℕ → Type 0) (w : ℕ) → 7 ≤ w → P 7 → P 8 → P (kind w)
+unfolding kind meaning
+from-seven P w low variable none = rw (List·getD-eq-default table nothing low) (go (ltb w 16) (ltb w 2048))
+  where
+    table : List calculus.Meaning
+    table = a-star ∷ a-castdown ∷ an-app ∷ a-castup ∷ a-lam ∷ a-pi ∷ a-mu ∷ []
+
+    go : (b c : Bool) → P (index (cond b nothing (cond c (a-variable (w - 16)) nothing)))
+    go true c = none
+    go false true = variable
+    go false false = none
+
+-- The test for a down cast or an application.
+abbrev pub framing : ℕ → Bool
+framing w = leb 1 w && leb w 2
+
+pub no-frame : (w : ℕ) → 7 ≤ w → framing w ≡ false
+no-frame w low = rw (le-leb 1 w (omega arith), lt-leb w 2 (omega arith)) refl
+
+pub framing-kind : (w : ℕ) → framing w ≡ framing (kind w)
+unfolding kind meaning
+framing-kind zero = refl
+framing-kind (suc zero) = refl
+framing-kind (suc (suc zero)) = refl
+framing-kind (suc (suc (suc zero))) = refl
+framing-kind (suc (suc (suc (suc zero)))) = refl
+framing-kind (suc (suc (suc (suc (suc zero))))) = refl
+framing-kind (suc (suc (suc (suc (suc (suc zero)))))) = refl
+framing-kind (suc (suc (suc (suc (suc (suc (suc w))))))) = above (suc (suc (suc (suc (suc (suc (suc w))))))) (omega arith)
+  where
+    above : (w : ℕ) → 7 ≤ w → framing w ≡ framing (kind w)
+    above w low = no-frame w low ∙ from-seven (λ k. false ≡ framing k) w low refl refl

@@ -1,0 +1,115 @@
+-- `clear` meets its contract. The loop's invariant: the words of the blocks passed are cleared. The measure is the number of
+-- blocks left.
+use Prim.Native.Nat.{_+_, _*_, _-_, _≤_}
+use mathlib.Core.Logic.{⊎-elim}
+use mathlib.Core.Path.{_≡_, refl, _∙_, ap}
+use native.Mathlib.Omega.{arith}
+use lib.ListN.{length}
+use borrow.Author.Needs.{needs}
+use borrow.Author.Tests.{not-false}
+use borrow.Rule.Slice.PartMut.{putMid}
+use denote.Ref.{now}
+use Rattle.calculus.specs.Outcomes.{cleared}
+use Rattle.reduction.proofs.Zeros.{cleared-none, cleared-length, cleared-more, part-clear}
+use Rattle.reduction.proofs.clearing.clear.Statement.{statement}
+use Rattle.reduction.proofs.clearing.clear.Tie as tie
+
+abbrev Inv-loop : tie.InvT-loop
+Inv-loop work₀ blocks block₀ work block = (block ≤ blocks) × (length work ≡ length work₀) × (work ≡ cleared (512 * block) work₀)
+
+abbrev μ-loop : tie.MeasureT-loop
+μ-loop work₀ blocks block₀ work block = blocks - block
+
+loop-holds : tie.Need-loop-holds Inv-loop μ-loop
+loop-holds c = (omega arith, refl, cleared-none (now (c .before .args .work)))
+
+mul-from : tie.Need-mul-from Inv-loop μ-loop
+mul-from c = omega arith
+
+add-to : tie.Need-add-to Inv-loop μ-loop
+add-to c = omega arith
+
+mul-is-clear : tie.Need-mul-is-clear Inv-loop μ-loop
+mul-is-clear c = omega arith
+
+sub-is-clear : tie.Need-sub-is-clear Inv-loop μ-loop
+sub-is-clear c = omega arith
+
+part-is-clear-start : tie.Need-part-is-clear-start Inv-loop μ-loop
+part-is-clear-start c = omega arith
+
+part-is-clear-end : tie.Need-part-is-clear-end Inv-loop μ-loop
+part-is-clear-end c = omega arith
+
+is-clear-requires : tie.Need-is-clear-requires Inv-loop μ-loop
+is-clear-requires c κs = search needs
+
+mul-fill : tie.Need-mul-fill Inv-loop μ-loop
+mul-fill c = omega arith
+
+sub-fill : tie.Need-sub-fill Inv-loop μ-loop
+sub-fill c = omega arith
+
+part-fill-start : tie.Need-part-fill-start Inv-loop μ-loop
+part-fill-start c = omega arith
+
+part-fill-end : tie.Need-part-fill-end Inv-loop μ-loop
+part-fill-end c = omega arith
+
+fill-requires : tie.Need-fill-requires Inv-loop μ-loop
+fill-requires c κs = search needs
+
+add-block : tie.Need-add-block Inv-loop μ-loop
+add-block c = omega arith
+
+loop-less : tie.Need-loop-less Inv-loop μ-loop
+loop-less c = omega arith
+
+loop-again : tie.Need-loop-again Inv-loop μ-loop
+loop-again c =
+    let work = now (c .before .before .before .before .before .before .before .args .work) in
+    let from = 512 * c .before .before .before .before .before .loop .block in
+    let l : from + 512 ≤ length work = omega arith in
+    let e : from + 512 ≡ 512 * (c .before .before .before .before .before .loop .block + 1) = omega arith in
+    let h : c .if1 .work ≡ cleared (from + 512) work =
+    cleared-more from (from + 512) work (omega arith) l (c .before .before .before .before .before .loop .inv .2)
+    (⊎-elim
+    (λ w. w .5 ∙ ap (putMid from (from + 512 - from) (c .before .before .before .before .before .loop .work)) (w .2 .ensures))
+    (λ w. w .1 ∙ part-clear from (from + 512 - from) (c .before .before .before .before .before .loop .work) (c .before .is-clear .ensures .0 (not-false _ (w .0 .left))))
+    (c .if1 .came))
+    in
+    (omega arith, ap length h ∙ cleared-length (from + 512) work l, h ∙ ap (λ k. cleared k work) e)
+
+same-length : tie.Need-same-length Inv-loop μ-loop
+same-length c = c .before .loop .inv .1
+
+returns : tie.Need-returns Inv-loop μ-loop
+returns c =
+    let a = c .before .before .before .args in
+    let e : c .before .loop .block ≡ a .blocks = omega arith in
+    c .before .loop .inv .2 ∙ ap (λ k. cleared (512 * k) (now (a .work))) e
+
+pub clear-spec : {M : Type 1} → statement M
+clear-spec =
+    tie.close
+    (tie.spec
+    Inv-loop
+    μ-loop
+    loop-holds
+    mul-from
+    add-to
+    mul-is-clear
+    sub-is-clear
+    part-is-clear-start
+    part-is-clear-end
+    is-clear-requires
+    mul-fill
+    sub-fill
+    part-fill-start
+    part-fill-end
+    fill-requires
+    add-block
+    loop-less
+    loop-again
+    same-length
+    returns)

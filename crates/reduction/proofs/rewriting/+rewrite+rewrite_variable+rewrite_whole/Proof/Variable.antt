@@ -1,0 +1,155 @@
+-- `rewrite_variable` meets its contract: what each arm writes is what stands for the variable. The argument is put in as it stands where
+-- raising does not change it, and otherwise raised, which puts nothing in.
+use Prim.Native.Nat.{ℕ, _+_}
+use mathlib.Core.Path.{_≡_, ap, subst}
+use native.Mathlib.Omega.{arith}
+use borrow.Author.Needs.{needs}
+use Rattle.reduction.specs.declared.rewriting.Change.the-variants as change
+use Rattle.reduction.specs.Rewriting.{Bounded, changed-word, raised}
+use Rattle.reduction.proofs.Changes.{unchanged, changed-raised, changed-lowered, changed-put}
+use Rattle.reduction.proofs.rewriting.rewrite_variable.Reads as reads
+use Rattle.reduction.proofs.rewriting.+rewrite+rewrite_variable+rewrite_whole.Lts-rewrite_variable as lts
+use Rattle.reduction.proofs.rewriting.+rewrite+rewrite_variable+rewrite_whole.Proof.Claims.{weight, rewrite-variable-at, rewrite-variable-claims}
+
+module _ (t : ℕ) where
+  -- The outermost variable.
+  module _ (c : lts.Else2 (rewrite-variable-claims t) (rewrite-variable-at t) reads.Post) where
+    outermost :
+        let a = c .before .before .before .before .before .before .before .args in
+        changed-word (a .change) (a .argument .now) (a .depth) (16 + a .index) ≡ raised (a .depth) (a .argument .now)
+    outermost =
+        let free = c .before .before .before .before in
+        let a = free .before .before .before .args in
+        let same : 16 + a .index ≡ 16 + a .depth = omega (arith, c .if2 .left, free .if1 .left) in
+        changed-put (c .before .before .change2 .given .1) (a .argument .now) (a .depth) (16 + a .index) same
+
+    bounded : Bounded (change.Put (c .before .before .change2 .given .0 .0)) (c .before .before .before .before .before .before .before .args .argument .now)
+    bounded =
+        let start = c .before .before .before .before .before .before .before in
+        subst (λ x. Bounded x (start .args .argument .now)) (c .before .before .change2 .given .1) (start .pre .1 .3)
+
+  add-put : lts.Need-add-put (rewrite-variable-claims t) (rewrite-variable-at t) reads.Post
+  add-put c = search needs
+
+  put-requires : lts.Need-put-requires (rewrite-variable-claims t) (rewrite-variable-at t) reads.Post
+  put-requires c κs = search needs
+
+  same-length : lts.Need-same-length (rewrite-variable-claims t) (rewrite-variable-at t) reads.Post
+  same-length c = search needs
+
+  returns : lts.Need-returns (rewrite-variable-claims t) (rewrite-variable-at t) reads.Post
+  returns c =
+      let bound = c .before .before .before .before in
+      let a = bound .before .before .before .args in
+      rw
+      (unchanged (a .change) (a .argument .now) (a .depth) (16 + a .index) (omega (arith, bound .if1 .taken)))
+      (c .before .before .put .ensures)
+
+  enum-known-change : lts.Need-enum-known-change (rewrite-variable-claims t) (rewrite-variable-at t) reads.Post
+  enum-known-change c = search needs
+
+  add-put-2 : lts.Need-add-put-2 (rewrite-variable-claims t) (rewrite-variable-at t) reads.Post
+  add-put-2 c = search needs
+
+  add-put-3 : lts.Need-add-put-3 (rewrite-variable-claims t) (rewrite-variable-at t) reads.Post
+  unfolding Bounded
+  add-put-3 c =
+      let start = c .before .before .before .before .before .before in
+      omega (arith, subst (λ x. Bounded x (start .args .argument .now)) (c .before .change .given .1) (start .pre .1 .3))
+
+  put-requires-2 : lts.Need-put-requires-2 (rewrite-variable-claims t) (rewrite-variable-at t) reads.Post
+  put-requires-2 c κs = search needs
+
+  enum-known-change-2 : lts.Need-enum-known-change-2 (rewrite-variable-claims t) (rewrite-variable-at t) reads.Post
+  enum-known-change-2 c = search needs
+
+  add-put-4 : lts.Need-add-put-4 (rewrite-variable-claims t) (rewrite-variable-at t) reads.Post
+  add-put-4 c = search needs
+
+  sub-put : lts.Need-sub-put (rewrite-variable-claims t) (rewrite-variable-at t) reads.Post
+  sub-put c = search needs
+
+  put-requires-3 : lts.Need-put-requires-3 (rewrite-variable-claims t) (rewrite-variable-at t) reads.Post
+  put-requires-3 c κs = search needs
+
+  same-length-2 : lts.Need-same-length-2 (rewrite-variable-claims t) (rewrite-variable-at t) reads.Post
+  same-length-2 c = search needs
+
+  returns-2 : lts.Need-returns-2 (rewrite-variable-claims t) (rewrite-variable-at t) reads.Post
+  returns-2 c =
+      let above = c .before .before .before .before in
+      let found = above .before .before in
+      let a = found .before .before .before .before .before .args in
+      rw
+      (changed-lowered (found .change2 .given .1) (a .argument .now) (a .depth) (16 + a .index) (omega (arith, above .if2 .taken)))
+      (c .before .before .put3 .ensures)
+
+  copy-requires : lts.Need-copy-requires (rewrite-variable-claims t) (rewrite-variable-at t) reads.Post
+  copy-requires c κs = search needs
+
+  same-length-3 : lts.Need-same-length-3 (rewrite-variable-claims t) (rewrite-variable-at t) reads.Post
+  same-length-3 c = search needs
+
+  returns-3 : lts.Need-returns-3 (rewrite-variable-claims t) (rewrite-variable-at t) reads.Post
+  unfolding Bounded
+  returns-3 c =
+      let here = c .before .before .before .before .before in
+      let depth = here .before .before .before .before .before .before .before .args .depth in
+      rw (outermost here, bounded here .3 (c .before .before .before .before .if3 .taken) depth) (c .before .before .copy .ensures)
+
+  rewrite-whole-requires : lts.Need-rewrite-whole-requires (rewrite-variable-claims t) (rewrite-variable-at t) reads.Post
+  unfolding Bounded
+  rewrite-whole-requires c κs =
+      let here = c .before .before in
+      let start = here .before .before .before .before .before .before .before in
+      let length-counts = ap (λ x. weight x (start .args .argument .now)) (here .before .before .change2 .given .1) in
+      let b = bounded here in
+      (omega (arith, start .pre .0, length-counts), (start .pre .1 .0, b .2, b .1, b .0, omega (arith, start .pre .1 .2)))
+
+  same-length-4 : lts.Need-same-length-4 (rewrite-variable-claims t) (rewrite-variable-at t) reads.Post
+  same-length-4 c = search needs
+
+  returns-4 : lts.Need-returns-4 (rewrite-variable-claims t) (rewrite-variable-at t) reads.Post
+  returns-4 c =
+      let found = c .before .before .before .before .before in
+      let free = found .before .before in
+      let a = free .before .before .before .args in
+      rw
+      (changed-raised (found .change .given .1) (a .argument .now) (a .depth) (16 + a .index) (omega (arith, free .if1 .left)))
+      (c .before .before .put2 .ensures)
+
+  same-length-5 : lts.Need-same-length-5 (rewrite-variable-claims t) (rewrite-variable-at t) reads.Post
+  same-length-5 c = search needs
+
+  returns-5 : lts.Need-returns-5 (rewrite-variable-claims t) (rewrite-variable-at t) reads.Post
+  unfolding raised changed-word
+  returns-5 c = rw (outermost (c .before .before .before .before .before)) (c .before .before .rewrite-whole .ensures)
+
+  pub closed : {M : Type 1} → lts.Closed (rewrite-variable-claims t) (rewrite-variable-at t) reads.Post M
+  closed =
+      lts.spec
+      (rewrite-variable-claims t)
+      (rewrite-variable-at t)
+      reads.Post
+      add-put
+      put-requires
+      same-length
+      returns
+      enum-known-change
+      add-put-2
+      add-put-3
+      put-requires-2
+      enum-known-change-2
+      add-put-4
+      sub-put
+      put-requires-3
+      same-length-2
+      returns-2
+      copy-requires
+      same-length-3
+      returns-3
+      rewrite-whole-requires
+      same-length-4
+      returns-4
+      same-length-5
+      returns-5

@@ -1,0 +1,169 @@
+-- `beta` meets its contract: the walks find the annotation, the body and the argument of the application, one behind the other, and the
+-- body with the argument put in is what the application steps to.
+use Prim.Native.Nat.{_+_, _≤_}
+use mathlib.Core.Path.{refl}
+use native.Mathlib.Omega.{arith}
+use borrow.Author.Needs.{needs}
+use lib.ListN.{length}
+use Rattle.calculus.specs.Term.{Term, app, lam, size}
+use Rattle.calculus.specs.Words.{emit, Scoped}
+use Rattle.calculus.specs.Step.{applied, step, under}
+use Rattle.reduction.proofs.Spans.{further, last, Spanned, ended, walked}
+use Rattle.reduction.proofs.Placing.{Placed, placed-within, beta-placed}
+use Rattle.reduction.proofs.Replacing.{replaceable, replaced}
+use Rattle.reduction.proofs.stepping.beta.Statement.{statement}
+use Rattle.reduction.proofs.stepping.beta.Tie as tie
+
+-- The redex, and its parts as they are found.
+redex : (c : tie.Start) → (a : Term) × (e : Term) × (u : Term) × Placed (c .args .state .now) (c .args .at) (app (lam a e) u)
+redex c = beta-placed (c .pre .1)
+
+two-words : (c : tie.Start) → c .args .at + 2 ≤ length (c .args .state .now)
+unfolding size
+two-words c = omega (arith, placed-within (redex c .3))
+
+annotation : (c : tie.After-span)
+    → let s = c .before .before .before .before in
+    let r = redex s in
+    Spanned (s .args .state .now) (s .args .at + 2) (r .0) (emit (r .1) (emit (r .2) (r .3 .rest))) (s .args .at + 2 + c .span .result)
+unfolding emit
+annotation c =
+    let s = c .before .before .before .before in
+    walked (further (s .args .state .now) (s .args .at) 2 (redex s .3 .here)) (c .span .ensures .0)
+
+body : (c : tie.After-span2)
+    → let s = c .before .before .before .before .before .before in
+    let r = redex s in
+    let n = s .args .at + 2 + c .before .before .span .result in
+    Spanned (s .args .state .now) n (r .1) (emit (r .2) (r .3 .rest)) (n + c .span2 .result)
+body c = walked (annotation (c .before .before) .next) (c .span2 .ensures .0)
+
+argument : (c : tie.After-behind)
+    → let s = c .before .before .before .before .before .before .before in
+    let r = redex s in
+    let n = s .args .at + 2 + c .before .before .before .span .result + c .before .span2 .result in
+    Spanned (s .args .state .now) n (r .2) (r .3 .rest) (c .behind .result)
+argument c = ended (body (c .before) .next) (c .behind .ensures .0)
+
+add-annotation : tie.Need-add-annotation
+add-annotation c = omega (arith, two-words (c .before .before))
+
+mul-span : tie.Need-mul-span
+mul-span c = omega (arith, two-words (c .before .before))
+
+sub-span : tie.Need-sub-span
+sub-span c = omega (arith, two-words (c .before .before))
+
+part-span-start : tie.Need-part-span-start
+part-span-start c = two-words (c .before .before)
+
+part-span-end : tie.Need-part-span-end
+part-span-end c = search needs
+
+span-requires : tie.Need-span-requires
+span-requires c κs = search needs
+
+add-body : tie.Need-add-body
+add-body c = omega (arith, annotation c .within)
+
+mul-span-2 : tie.Need-mul-span-2
+mul-span-2 c = omega (arith, annotation c .within)
+
+sub-span-2 : tie.Need-sub-span-2
+sub-span-2 c = omega (arith, annotation c .within)
+
+part-span-start-2 : tie.Need-part-span-start-2
+part-span-start-2 c = annotation c .within
+
+part-span-end-2 : tie.Need-part-span-end-2
+part-span-end-2 c = search needs
+
+span-requires-2 : tie.Need-span-requires-2
+span-requires-2 c κs = search needs
+
+add-argument : tie.Need-add-argument
+add-argument c = omega (arith, body c .within)
+
+behind-requires : tie.Need-behind-requires
+behind-requires c κs =
+    let r = redex (c .before .before .before .before .before .before) in
+    (body c .within, λ zero. last _ _ (r .2) (body c .next) (r .3 .alone zero))
+
+mul-replace : tie.Need-mul-replace
+mul-replace c = search needs
+
+sub-replace : tie.Need-sub-replace
+sub-replace c = search needs
+
+part-replace-start : tie.Need-part-replace-start
+part-replace-start c = search needs
+
+part-replace-end : tie.Need-part-replace-end
+part-replace-end c = search needs
+
+mul-replace-2 : tie.Need-mul-replace-2
+mul-replace-2 c = search needs
+
+sub-replace-2 : tie.Need-sub-replace-2
+sub-replace-2 c = search needs
+
+part-replace-start-2 : tie.Need-part-replace-start-2
+part-replace-start-2 c = search needs
+
+part-replace-end-2 : tie.Need-part-replace-end-2
+part-replace-end-2 c = search needs
+
+replace-requires : tie.Need-replace-requires
+unfolding Scoped
+replace-requires c κs =
+    let s = c .before .before .before .before .before .before .before .before .before .before in
+    replaceable
+    (redex s .3)
+    (body (c .before .before .before .before))
+    (argument (c .before .before .before))
+    (s .pre .0)
+    (λ n h. h .0 .1)
+    (λ n h. h .1)
+
+same-length : tie.Need-same-length
+same-length c = search needs
+
+returns : tie.Need-returns
+unfolding step under applied
+returns c =
+    replaced
+    (redex (c .before .before .before .before .before .before .before .before .before .before .before .before .before) .3)
+    (body (c .before .before .before .before .before .before .before))
+    (argument (c .before .before .before .before .before .before))
+    refl
+    (c .before .before .replace .ensures)
+
+pub beta-spec : {M : Type 1} → statement M
+beta-spec =
+    tie.close
+    (tie.spec
+    add-annotation
+    mul-span
+    sub-span
+    part-span-start
+    part-span-end
+    span-requires
+    add-body
+    mul-span-2
+    sub-span-2
+    part-span-start-2
+    part-span-end-2
+    span-requires-2
+    add-argument
+    behind-requires
+    mul-replace
+    sub-replace
+    part-replace-start
+    part-replace-end
+    mul-replace-2
+    sub-replace-2
+    part-replace-start-2
+    part-replace-end-2
+    replace-requires
+    same-length
+    returns)

@@ -1,0 +1,246 @@
+-- `find_redex` meets its contract: each return gives the redex that the word behind the leading down casts and applications, and the one
+-- before it, decide.
+use Prim.Native.Nat.{_<_}
+use mathlib.Core.List.{[], _∷_}
+use mathlib.Core.Path.{refl, sym, ap}
+use native.Mathlib.Omega.{arith}
+use borrow.Author.Needs.{needs}
+use lib.ListN.{length}
+use Rattle.reduction.specs.declared.stepping.Redex.the-variants.{Unfold}
+use Rattle.reduction.proofs.Deciding.{heads-within, found, found-framed}
+use Rattle.reduction.proofs.stepping.find_redex.Statement.{statement}
+use Rattle.reduction.proofs.stepping.find_redex.Tie as tie
+
+leading-requires : tie.Need-leading-requires
+leading-requires c κs = search needs
+
+inside : (c : tie.After-leading) → c .leading .result < length (c .before .before .args .state .now)
+inside c = heads-within (c .before .before .pre) (c .leading .ensures)
+
+mul-classify : tie.Need-mul-classify
+mul-classify c = omega (arith, inside c)
+
+shared-slice-read-classify : tie.Need-shared-slice-read-classify
+shared-slice-read-classify c = inside (c .before)
+
+classify-requires : tie.Need-classify-requires
+classify-requires c κs = search needs
+
+enum-told : tie.Need-enum-told
+enum-told c = search needs
+
+returns : tie.Need-returns
+returns c =
+    let m = c .before .before .classify in
+    found
+    (m .result)
+    (0 ∷ 5 ∷ [])
+    (c .before .before .before .before .leading .ensures)
+    (m .ensures)
+    (c .before .match .keys2)
+    (λ _. (refl, (refl, tt)))
+    (λ n. absurd (n (c .if1 .taken)))
+
+enum-told-2 : tie.Need-enum-told-2
+enum-told-2 c = search needs
+
+returns-2 : tie.Need-returns-2
+returns-2 c =
+    let m = c .before .before .before .classify in
+    found
+    (m .result)
+    (4 ∷ [])
+    (c .before .before .before .before .before .leading .ensures)
+    (m .ensures)
+    (c .before .before .match .keys3)
+    (λ _. (refl, tt))
+    (λ n. absurd (n (c .if2 .taken)))
+
+sub-classify : tie.Need-sub-classify
+sub-classify c = search needs
+
+mul-classify-2 : tie.Need-mul-classify-2
+mul-classify-2 c = omega (arith, inside (c .before .before .before .before .before))
+
+shared-slice-read-classify-2 : tie.Need-shared-slice-read-classify-2
+shared-slice-read-classify-2 c = omega (arith, inside (c .before .before .before .before .before .before))
+
+classify-requires-2 : tie.Need-classify-requires-2
+classify-requires-2 c κs = search needs
+
+enum-told-3 : tie.Need-enum-told-3
+enum-told-3 c = search needs
+
+sub-t15 : tie.Need-sub-t15
+sub-t15 c = search needs
+
+returns-3 : tie.Need-returns-3
+returns-3 c =
+    let m = c .before .before .before .before .before .before .before .classify in
+    let k = c .before .before .classify2 in
+    found-framed
+    (m .result)
+    (4 ∷ [])
+    (c .before .before .before .before .before .before .before .before .before .leading .ensures)
+    (m .ensures)
+    (c .before .before .before .before .before .before .match .keys3)
+    (k .result)
+    (2 ∷ [])
+    (k .ensures)
+    (c .before .match2 .keys1)
+    (c .before .before .before .before .if2 .left)
+    (((refl, tt), tt))
+
+enum-told-4 : tie.Need-enum-told-4
+enum-told-4 c = search needs
+
+returns-4 : tie.Need-returns-4
+returns-4 c =
+    let m = c .before .before .before .classify in
+    found
+    (m .result)
+    (3 ∷ [])
+    (c .before .before .before .before .before .leading .ensures)
+    (m .ensures)
+    (c .before .before .match .keys4)
+    (λ _. (refl, tt))
+    (λ n. absurd (n (c .if3 .taken)))
+
+sub-classify-2 : tie.Need-sub-classify-2
+sub-classify-2 c = search needs
+
+mul-classify-3 : tie.Need-mul-classify-3
+mul-classify-3 c = omega (arith, inside (c .before .before .before .before .before))
+
+shared-slice-read-classify-3 : tie.Need-shared-slice-read-classify-3
+shared-slice-read-classify-3 c = omega (arith, inside (c .before .before .before .before .before .before))
+
+classify-requires-3 : tie.Need-classify-requires-3
+classify-requires-3 c κs = search needs
+
+enum-told-5 : tie.Need-enum-told-5
+enum-told-5 c = search needs
+
+sub-t22 : tie.Need-sub-t22
+sub-t22 c = search needs
+
+returns-5 : tie.Need-returns-5
+returns-5 c =
+    let m = c .before .before .before .before .before .before .before .classify in
+    let k = c .before .before .classify3 in
+    found-framed
+    (m .result)
+    (3 ∷ [])
+    (c .before .before .before .before .before .before .before .before .before .leading .ensures)
+    (m .ensures)
+    (c .before .before .before .before .before .before .match .keys4)
+    (k .result)
+    (1 ∷ [])
+    (k .ensures)
+    (c .before .match3 .keys1)
+    (c .before .before .before .before .if3 .left)
+    (((refl, tt), tt))
+
+returns-6 : tie.Need-returns-6
+returns-6 c =
+    let m = c .before .before .classify in
+    found
+    (m .result)
+    (6 ∷ [])
+    (c .before .before .before .before .leading .ensures)
+    (m .ensures)
+    (c .before .match .keys1)
+    (λ z. (ap Unfold (sym z), tt))
+    (λ _. (refl, tt))
+
+returns-7 : tie.Need-returns-7
+returns-7 c =
+    let m = c .before .before .classify in
+    found
+    (m .result)
+    (0 ∷ 5 ∷ [])
+    (c .before .before .before .before .leading .ensures)
+    (m .ensures)
+    (c .before .match .keys2)
+    (λ z. absurd (c .if1 .left z))
+    (λ _. (refl, (refl, tt)))
+
+returns-8 : tie.Need-returns-8
+returns-8 c =
+    let m = c .before .before .before .before .before .before .classify in
+    let k = c .before .classify2 in
+    found-framed
+    (m .result)
+    (4 ∷ [])
+    (c .before .before .before .before .before .before .before .before .leading .ensures)
+    (m .ensures)
+    (c .before .before .before .before .before .match .keys3)
+    (k .result)
+    (0 ∷ 1 ∷ 3 ∷ 4 ∷ 5 ∷ 6 ∷ 7 ∷ 8 ∷ [])
+    (k .ensures)
+    (c .match2 .keys2)
+    (c .before .before .before .if2 .left)
+    (((refl, tt), ((refl, tt), ((refl, tt), ((refl, tt), ((refl, tt), ((refl, tt), ((refl, tt), ((refl, tt), tt)))))))))
+
+returns-9 : tie.Need-returns-9
+returns-9 c =
+    let m = c .before .before .before .before .before .before .classify in
+    let k = c .before .classify3 in
+    found-framed
+    (m .result)
+    (3 ∷ [])
+    (c .before .before .before .before .before .before .before .before .leading .ensures)
+    (m .ensures)
+    (c .before .before .before .before .before .match .keys4)
+    (k .result)
+    (0 ∷ 2 ∷ 3 ∷ 4 ∷ 5 ∷ 6 ∷ 7 ∷ 8 ∷ [])
+    (k .ensures)
+    (c .match3 .keys2)
+    (c .before .before .before .if3 .left)
+    (((refl, tt), ((refl, tt), ((refl, tt), ((refl, tt), ((refl, tt), ((refl, tt), ((refl, tt), ((refl, tt), tt)))))))))
+
+returns-10 : tie.Need-returns-10
+returns-10 c =
+    let m = c .before .classify in
+    found
+    (m .result)
+    (7 ∷ 8 ∷ 1 ∷ 2 ∷ [])
+    (c .before .before .before .leading .ensures)
+    (m .ensures)
+    (c .match .keys5)
+    (λ _. (refl, (refl, (refl, (refl, tt)))))
+    (λ _. (refl, (refl, (refl, (refl, tt)))))
+
+pub find-redex-spec : {M : Type 1} → statement M
+find-redex-spec =
+    tie.close
+    (tie.spec
+    leading-requires
+    mul-classify
+    shared-slice-read-classify
+    classify-requires
+    enum-told
+    returns
+    enum-told-2
+    returns-2
+    sub-classify
+    mul-classify-2
+    shared-slice-read-classify-2
+    classify-requires-2
+    enum-told-3
+    sub-t15
+    returns-3
+    enum-told-4
+    returns-4
+    sub-classify-2
+    mul-classify-3
+    shared-slice-read-classify-3
+    classify-requires-3
+    enum-told-5
+    sub-t22
+    returns-5
+    returns-6
+    returns-7
+    returns-8
+    returns-9
+    returns-10)

@@ -1,0 +1,4 @@
+-- What the contracts of this crate cite.
+pub mod Writing
+pub mod Rewriting
+pub mod Stepping

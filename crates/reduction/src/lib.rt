@@ -1,0 +1,5 @@
+// Raising, substitution and one step, from parts of shared slices into a `&mut` slice with bounded room.
+pub mod clearing;
+pub mod copying;
+pub mod rewriting;
+pub mod stepping;
