@@ -1,0 +1,6 @@
+-- The laws behind the functions' proofs.
+pub mod Scoping
+pub mod Begun
+pub mod States
+pub mod Turns
+pub mod Answers

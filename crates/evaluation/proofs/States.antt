@@ -1,0 +1,150 @@
+-- The state at the front of the working slice, through one step. Storing a closed term's words from the start of a slice puts
+-- it there. A step writes only into the room for a state, so the slice behind it stays; where the next state does not fit, the
+-- room is left broken, and storing the copy again brings the state back.
+use Prim.Native.Nat.{ℕ, _+_, _≤_, _<_}
+use mathlib.Core.Bool.{true}
+use mathlib.Core.List.{List, _++_}
+use mathlib.Core.Path.{_≡_, refl, sym, _∙_, ap, subst}
+use native.Mathlib.Omega.{arith}
+use lib.Dec.{lit≤}
+use lib.ListN.{length, take, drop, take-append-drop}
+use lib.Seq.{sets, take-append-le, drop-at, length-take-le}
+use Rattle.calculus.specs.Term.{Term, size}
+use Rattle.calculus.specs.Words.{words, Scoped, Readable, longest, deepest}
+use Rattle.calculus.specs.Rules.{_⟶_}
+use Rattle.calculus.specs.Step as calculus
+use Rattle.calculus.specs.Outcomes.{begun}
+use Rattle.calculus.proofs.Coding.{words-length}
+use Rattle.calculus.proofs.Stepping.{next-step}
+use Rattle.reduction.specs.Writing.{Writes}
+use Rattle.reduction.specs.Stepping.{Codes, Arrives, Steps}
+use Rattle.reduction.specs.declared.copying.Room.{Room}
+use Rattle.reduction.specs.declared.stepping.Stepped.{Stepped}
+use Rattle.reduction.specs.declared.stepping.Stepped.the-variants as stepped
+use Rattle.evaluation.specs.Courses.{Holds, Advances}
+use Rattle.evaluation.proofs.Begun.{sets-begun, take-begun, drop-begun}
+use Rattle.evaluation.proofs.Scoping.{step-scoped, scoped-more}
+
+-- The words are those of the closed term `x`, which are `count` in number and at most 1,024.
+pub record Spells (e : List ℕ) (count : ℕ) (x : Term) : Type 0 where
+  pub coded : e ≡ words x
+  pub extent : count ≡ size x
+  pub short : size x ≤ longest
+  pub closed : Scoped 0 x
+
+pub readable-spells : (e : List ℕ) {t : Term} → e ≡ words t → Readable t → Spells e (length e) t
+readable-spells e {t} h r =
+    record { coded = h; extent = ap length h ∙ words-length t; short = r .short; closed = r .closed }
+
+pub spells-length : {e : List ℕ} {count : ℕ} {x : Term} → Spells e count x → length e ≡ count
+spells-length {x} h = ap length (h .coded) ∙ words-length x ∙ sym (h .extent)
+
+-- What a step asks of them.
+pub spells-codes : {e : List ℕ} {count : ℕ} {x : Term} → Spells e count x → Codes e true
+spells-codes {x} h =
+    record {
+      term = x;
+      coded = h .coded;
+      short = h .short;
+      scoped = scoped-more 0 deepest (lit≤ tt) x (h .closed);
+      shut = λ _. h .closed;
+    }
+
+pub held-spells : {slice : List ℕ} {count : ℕ} {x : Term} → Holds slice count x → Spells (take count slice) count x
+held-spells h = record { coded = h .front; extent = h .extent; short = h .short; closed = h .closed }
+
+-- A copy of them to the start of a slice.
+module _ {e slice : List ℕ} {r : Room} {after : List ℕ} {count : ℕ} {x : Term}
+    (w : Writes e slice 0 r after)
+    (h : Spells e count x)
+    (room : longest ≤ length slice) where
+  pub copied-begun : after ≡ begun (words x) slice
+  copied-begun =
+      let l : 0 + length e ≤ length slice = omega (arith, spells-length h) in
+      w .fits l .1 ∙ ap (sets slice 0) (h .coded) ∙ sets-begun slice (words x) (omega (arith, words-length x))
+
+  pub copied-held : Holds after count x
+  copied-held =
+      record {
+        front =
+            ap (take count) copied-begun
+            ∙ ap (λ n. take n (begun (words x) slice)) (h .extent ∙ sym (words-length x))
+            ∙ take-begun slice (words x);
+        extent = h .extent;
+        short = h .short;
+        closed = h .closed;
+      }
+
+  pub copied-behind : drop longest after ≡ drop longest slice
+  copied-behind = ap (drop longest) copied-begun ∙ drop-begun longest slice (words x) (omega (arith, words-length x))
+
+-- A step from the state `x` at the front of `work`, written to the front of the room for a state, which it leaves as `room`.
+module _ {work : List ℕ} {count : ℕ} {x : Term}
+    (all : longest ≤ length work)
+    (h : Holds work count x)
+    (room : List ℕ)
+    (kept : length room ≡ longest) where
+  behind : drop longest (room ++ drop longest work) ≡ drop longest work
+  behind = drop-at room (drop longest work) longest kept
+
+  same : room ≡ take longest work → Holds (room ++ drop longest work) count x
+  same e = subst (λ w. Holds w count x) (sym (ap (λ l. l ++ drop longest work) e ∙ take-append-drop longest work)) h
+
+  arrived : {r : Stepped} {y : Term}
+      → x ⟶ y
+      → Arrives (words y) (take longest work) r room
+      → size y ≤ longest
+      → (r ≡ stepped.To (size y)) × Holds (room ++ drop longest work) (size y) y
+  arrived {y} s a l =
+      let n : length (take longest work) ≡ longest = length-take-le longest work all in
+      let f = a .fits (omega (arith, words-length y)) in (
+        f .0 ∙ ap stepped.To (words-length y),
+        record {
+          front =
+              take-append-le (size y) room (drop longest work) (omega arith)
+              ∙ ap (take (size y)) (f .1 ∙ sets-begun (take longest work) (words y) (omega (arith, words-length y)))
+              ∙ ap (λ k. take k (begun (words y) (take longest work))) (sym (words-length y))
+              ∙ take-begun (take longest work) (words y);
+          extent = refl;
+          short = l;
+          closed = step-scoped 0 s (h .closed);
+        },
+      )
+
+  overflowed : (y : Term) {r : Stepped} → Arrives (words y) (take longest work) r room → longest < size y → r ≡ stepped.Full
+  overflowed y a l = a .full (omega (arith, words-length y, length-take-le longest work all))
+
+  -- The next state fits, or there is none.
+  pub advanced : {r : Stepped}
+      → Steps (calculus.step x) (take longest work) r room
+      → ¬ (r ≡ stepped.Full)
+      → Advances (calculus.step x) work count x r (room ++ drop longest work)
+  unfolding Steps Advances
+  advanced {r} s differs = on (calculus.step x) refl s
+    where
+      on : (n : calculus.Next)
+          → calculus.step x ≡ n
+          → Steps n (take longest work) r room
+          → Advances n work count x r (room ++ drop longest work)
+      on calculus.value e s = (s .0, same (s .1), behind)
+      on calculus.stuck e s = (s .0, same (s .1), behind)
+      on (calculus.next y) e s = (arrived (next-step e) s, λ l. absurd (differs (overflowed y s l)), behind)
+
+  -- It does not fit, and the copy of `x` is stored again.
+  pub restored : {r : Stepped} {again : List ℕ}
+      → Steps (calculus.step x) (take longest work) r room
+      → r ≡ stepped.Full
+      → Holds again count x
+      → drop longest again ≡ drop longest (room ++ drop longest work)
+      → Advances (calculus.step x) work count x r again
+  unfolding Steps Advances
+  restored {r} {again} s full held back = on (calculus.step x) refl s
+    where
+      on : (n : calculus.Next) → calculus.step x ≡ n → Steps n (take longest work) r room → Advances n work count x r again
+      on calculus.value e s = let p = s .0 in let z : _≡_ {A = ℕ} 0 1 = cc in absurd (omega arith)
+      on calculus.stuck e s = let p = s .0 in let z : _≡_ {A = ℕ} 0 1 = cc in absurd (omega arith)
+      on (calculus.next y) e s = (
+        λ l. let p = arrived (next-step e) s l .0 in let z : _≡_ {A = ℕ} 0 1 = cc in absurd (omega arith),
+        λ l. (full, held),
+        back ∙ behind,
+      )

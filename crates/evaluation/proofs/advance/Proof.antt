@@ -1,0 +1,152 @@
+-- `advance` meets its contract. The copy of the front of the working slice holds the state, so the step is the state's; where
+-- the next state fits, or there is none, it is at the front already, and where it does not, the copy is stored again.
+use Prim.Native.Nat.{_≤_}
+use mathlib.Core.List.{[], _∷_, _++_}
+use mathlib.Core.Path.{_≡_, sym, _∙_, subst}
+use native.Mathlib.Omega.{arith}
+use lib.ListN.{length, take, drop, length-append}
+use lib.Seq.{length-take-le}
+use denote.Ref.{now}
+use denote.Enum.Declared.{tagOf}
+use types.Run.{OneOf, miss}
+use borrow.Author.Needs.{needs}
+use Rattle.calculus.specs.Term.{Term}
+use Rattle.calculus.specs.Words.{longest}
+use Rattle.calculus.specs.Step as calculus
+use Rattle.reduction.specs.Stepping.{Steps}
+use Rattle.reduction.proofs.stepping.Stepped.{the-type}
+use Rattle.evaluation.specs.Courses.{Holds}
+use Rattle.evaluation.proofs.States.{spells-length, spells-codes, held-spells, copied-held, copied-behind, advanced, restored}
+use Rattle.evaluation.proofs.advance.Statement.{statement}
+use Rattle.evaluation.proofs.advance.Tie as tie
+
+-- The copy holds the state too.
+copy-holds : (c : tie.After-copy) (x : Term)
+    → Holds (now (c .before .before .before .before .before .args .work)) (c .before .before .before .before .before .args .count) x
+    → Holds (c .copy .last .1 .0) (c .before .before .before .before .before .args .count) x
+copy-holds c x h = copied-held (c .copy .ensures) (held-spells h) (omega arith)
+
+-- The step is the state's, within the room for a state.
+room : (c : tie.After-step) → length (c .step .last .1 .1 .0) ≡ longest
+room c =
+    let start = c .before .before .before .before .before .before .before .before .before .before in
+    c .step .kept .1 .1 .0 ∙ length-take-le longest (now (start .args .work)) (start .pre .0)
+
+steps : (c : tie.After-step) (x : Term)
+    → Holds
+    (now (c .before .before .before .before .before .before .before .before .before .before .args .work))
+    (c .before .before .before .before .before .before .before .before .before .before .args .count)
+    x
+    → Steps
+    (calculus.step x)
+    (take longest (now (c .before .before .before .before .before .before .before .before .before .before .args .work)))
+    (c .step .result)
+    (c .step .last .1 .1 .0)
+steps c x h = c .step .ensures x (copy-holds (c .before .before .before .before .before) x h .front)
+
+slice-reshare-prefix-copy : tie.Need-slice-reshare-prefix-copy
+slice-reshare-prefix-copy c = search needs
+
+slice-aggregate-copy : tie.Need-slice-aggregate-copy
+slice-aggregate-copy c = sym (spells-length (held-spells (c .before .before .before .pre .2 .1)))
+
+copy-requires : tie.Need-copy-requires
+copy-requires c κs = search needs
+
+slice-reshare-prefix-step : tie.Need-slice-reshare-prefix-step
+slice-reshare-prefix-step c = search needs
+
+slice-aggregate-step : tie.Need-slice-aggregate-step
+slice-aggregate-step c =
+    let (x, h) = c .before .before .before .before .before .before .before .before .pre .2 in
+    sym (spells-length (held-spells (copy-holds (c .before .before .before) x h)))
+
+slice-relend-prefix-step : tie.Need-slice-relend-prefix-step
+slice-relend-prefix-step c = search needs
+
+slice-aggregate-step-2 : tie.Need-slice-aggregate-step-2
+slice-aggregate-step-2 c =
+    let start = c .before .before .before .before .before .before .before .before .before in
+    sym (length-take-le longest (now (start .args .work)) (start .pre .0))
+
+step-requires : tie.Need-step-requires
+step-requires c κs =
+    let (x, h) = c .before .before .before .before .before .before .before .before .before .pre .2 in
+    spells-codes (held-spells (copy-holds (c .before .before .before .before) x h))
+
+enum-told : tie.Need-enum-told
+enum-told c = search needs
+
+slice-reshare-prefix-copy-2 : tie.Need-slice-reshare-prefix-copy-2
+slice-reshare-prefix-copy-2 c = search needs
+
+slice-aggregate-copy-2 : tie.Need-slice-aggregate-copy-2
+slice-aggregate-copy-2 c =
+    let copy = c .before .before .before .before .before .before .before .before .before .before in
+    let (x, h) = copy .before .before .before .before .before .pre .2 in
+    sym (spells-length (held-spells (copy-holds copy x h)))
+
+copy-requires-2 : tie.Need-copy-requires-2
+copy-requires-2 c κs = search needs
+
+same-length : tie.Need-same-length
+same-length c = search needs
+
+same-length-2 : tie.Need-same-length-2
+same-length-2 c = search needs
+
+returns : tie.Need-returns
+returns c x h =
+    let step = c .before .before .before .before .before .before .before .before .before in
+    let copy = step .before .before .before .before .before in
+    let start = copy .before .before .before .before .before in
+    let again = c .before .before .copy2 in
+    let back = held-spells (copy-holds copy x h) in
+    let long : longest ≤ length (step .step .last .1 .1 .0 ++ drop longest (now (start .args .work))) =
+    omega (arith, room step, length-append (step .step .last .1 .1 .0) (drop longest (now (start .args .work))))
+    in
+    restored
+    (start .pre .0)
+    h
+    (step .step .last .1 .1 .0)
+    (room step)
+    (steps step x h)
+    (c .before .before .before .before .before .enum-told .given .1)
+    (copied-held (again .ensures) back long)
+    (copied-behind (again .ensures) back long)
+
+same-length-3 : tie.Need-same-length-3
+same-length-3 c = search needs
+
+same-length-4 : tie.Need-same-length-4
+same-length-4 c = search needs
+
+returns-2 : tie.Need-returns-2
+returns-2 c x h =
+    let step = c .before .before .before in
+    let start = step .before .before .before .before .before .before .before .before .before .before in
+    advanced (start .pre .0) h (step .step .last .1 .1 .0) (room step) (steps step x h) λ e.
+    miss (0 ∷ 1 ∷ 2 ∷ []) 3 tt (subst (λ r. OneOf (0 ∷ 1 ∷ 2 ∷ []) (tagOf the-type r)) e (c .match .keys2))
+
+pub advance-spec : {M : Type 1} → statement M
+advance-spec =
+    tie.close
+    (tie.spec
+    slice-reshare-prefix-copy
+    slice-aggregate-copy
+    copy-requires
+    slice-reshare-prefix-step
+    slice-aggregate-step
+    slice-relend-prefix-step
+    slice-aggregate-step-2
+    step-requires
+    enum-told
+    slice-reshare-prefix-copy-2
+    slice-aggregate-copy-2
+    copy-requires-2
+    same-length
+    same-length-2
+    returns
+    same-length-3
+    same-length-4
+    returns-2)

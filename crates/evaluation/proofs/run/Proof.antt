@@ -1,0 +1,145 @@
+-- `run` meets its contract. Each return is the outcome of the calculus: the refusals by the test that led there, and an ended
+-- run since what is read is a readable term, the smaller of budget and allowance is the grant, and the course is the calculus'
+-- course.
+use Prim.Native.Nat.{_≤_, min}
+use mathlib.Core.Logic.{⊎-elim}
+use mathlib.Core.Path.{_≡_, sym, _∙_, ap, subst}
+use native.Mathlib.Omega.{arith}
+use lib.ListN.{length}
+use denote.Ref.{now}
+use borrow.Author.Needs.{needs}
+use Rattle.calculus.specs.Term.{Term}
+use Rattle.calculus.specs.Words.{Readable, words, longest}
+use Rattle.calculus.specs.Run.{run-from}
+use Rattle.calculus.specs.Outcomes.{run-room}
+use Rattle.calculus.specs.Runs.{work-refused, state-refused, unread}
+use Rattle.term.specs.Subterms.{reading-of}
+use Rattle.evaluation.specs.Courses.{Performs}
+use Rattle.evaluation.proofs.Answers.{readable, unreadable, meets-runs, steps-within, meets-course}
+use Rattle.evaluation.proofs.run.Statement.{statement}
+use Rattle.evaluation.proofs.run.Tie as tie
+
+-- What is read.
+term-read : (c : tie.After-enum-told)
+    → (t : Term)
+    × (now (c .before .before .before .before .before .before .before .before .args .term) ≡ words t)
+    × Readable t
+term-read c =
+    readable
+    (now (c .before .before .before .before .before .before .before .before .args .term))
+    (sym (ap reading-of (c .enum-told .given .1)) ∙ c .before .before .read .ensures)
+
+-- The grant.
+granted : (c : tie.Joined3)
+    → c .if3 .grant
+    ≡ min
+    (c .before .before .before .before .before .before .before .before .before .before .args .budget)
+    (c .before .before .before .before .before .before .before .before .before .before .args .desk .allowance)
+granted c = ⊎-elim (λ w. omega arith) (λ w. omega arith) (c .if3 .came)
+
+-- The course.
+performed : (c : tie.After-perform)
+    → Performs
+    (run-from
+    (min
+    (c .before .before .before .before .before .before .before .before .before .before .before .before .args .budget)
+    (c .before .before .before .before .before .before .before .before .before .before .before .before .args .desk .allowance))
+    (term-read (c .before .before .before .before) .0))
+    (now (c .before .before .before .before .before .before .before .before .before .before .before .before .args .work))
+    (c .perform .result)
+    (c .perform .last .1 .1 .0)
+performed c =
+    let (t, e, r) = term-read (c .before .before .before .before) in
+    subst
+    (λ g.
+    Performs
+    (run-from g t)
+    (now (c .before .before .before .before .before .before .before .before .before .before .before .before .args .work))
+    (c .perform .result)
+    (c .perform .last .1 .1 .0))
+    (granted (c .before .before))
+    (c .perform .ensures t e r)
+
+returns : tie.Need-returns
+returns c =
+    let a = c .before .before .before .before .args in
+    meets-runs (now (a .term)) (a .budget) (a .desk .allowance) (now (a .work)) (now (a .state)) (work-refused (c .if1 .taken))
+
+returns-2 : tie.Need-returns-2
+returns-2 c =
+    let a = c .before .before .before .before .before .args in
+    let refusal = state-refused (c .before .if1 .left) (c .if2 .taken) in
+    meets-runs (now (a .term)) (a .budget) (a .desk .allowance) (now (a .work)) (now (a .state)) refusal
+
+read-requires : tie.Need-read-requires
+read-requires c κs = search needs
+
+enum-known-refusal : tie.Need-enum-known-refusal
+enum-known-refusal c = search needs
+
+returns-3 : tie.Need-returns-3
+returns-3 c =
+    let read = c .before .before .before in
+    let a = read .before .before .before .before .before .before .args in
+    let told = sym (ap reading-of (c .before .refusal .given .1)) ∙ read .read .ensures in
+    let e = unreadable (now (a .term)) (c .before .refusal .given .0 .0) told in
+    let refusal = unread (read .before .before .if1 .left) (read .before .if2 .left) e in
+    meets-runs (now (a .term)) (a .budget) (a .desk .allowance) (now (a .work)) (now (a .state)) refusal
+
+enum-told : tie.Need-enum-told
+enum-told c = search needs
+
+perform-requires : tie.Need-perform-requires
+perform-requires c κs =
+    let else = c .before .before .before .before .before .before .before in
+    let l : longest ≤ length (now (else .before .before .before .before .args .work)) = omega (arith, else .if1 .left) in
+    (l, term-read (c .before .before .before))
+
+settle-requires : tie.Need-settle-requires
+settle-requires c κs =
+    let perform = c .before .before .before .before in
+    let else = perform .before .before .before .before .before .before .before in
+    let a = perform .before .before .before .before .before .before .before .before .before .before .before .before .args in
+    let (t, e, r) = term-read (perform .before .before .before .before) in
+    let long : run-room ≤ length (perform .perform .last .1 .1 .0) =
+    omega (arith, else .before .if1 .left, perform .perform .kept .1 .1 .0)
+    in
+    let within = steps-within (perform .before .before .if3 .grant) r (perform .perform .ensures t e r) in (
+      long,
+      else .if2 .left,
+      omega (arith, within, granted (perform .before .before)),
+      (run-from (min (a .budget) (a .desk .allowance)) t .state, performed perform .holds),
+    )
+
+same-length : tie.Need-same-length
+same-length c = search needs
+
+same-length-2 : tie.Need-same-length-2
+same-length-2 c = search needs
+
+returns-4 : tie.Need-returns-4
+returns-4 c =
+    let settle = c .before .before .before .before in
+    let perform = settle .before .before .before .before .before in
+    let else = perform .before .before .before .before .before .before .before in
+    let a = perform .before .before .before .before .before .before .before .before .before .before .before .before .args in
+    let (t, e, r) = term-read (perform .before .before .before .before) in
+    let p = performed perform in
+    meets-course (now (a .term)) (a .budget) (a .desk .allowance) (now (a .work)) (now (a .state)) e r p (else .before .if1 .left) (else .if2 .left)
+    (settle .settle .ensures (run-from (min (a .budget) (a .desk .allowance)) t .state) (p .holds))
+
+pub run-spec : {M : Type 1} → statement M
+run-spec =
+    tie.close
+    (tie.spec
+    returns
+    returns-2
+    read-requires
+    enum-known-refusal
+    returns-3
+    enum-told
+    perform-requires
+    settle-requires
+    same-length
+    same-length-2
+    returns-4)

@@ -1,0 +1,37 @@
+-- What the inner functions of a run leave in the working slice.
+use Prim.Native.Nat.{ℕ, _≤_, _<_}
+use mathlib.Core.List.{List}
+use mathlib.Core.Path.{_≡_}
+use lib.ListN.{length, take, drop}
+use Rattle.calculus.specs.Term.{Term, size}
+use Rattle.calculus.specs.Words.{words, Scoped, longest}
+use Rattle.calculus.specs.Step as calculus
+use Rattle.calculus.specs.Run.{Ended}
+use Rattle.reduction.specs.declared.stepping.Stepped.{Stepped}
+use Rattle.reduction.specs.declared.stepping.Stepped.the-variants as stepped
+use Rattle.evaluation.specs.declared.Course.{Course}
+use Rattle.evaluation.specs.Outcomes.{end-of}
+
+-- The closed term `x`, of at most 1,024 words, stands at the front of the working slice, `count` words long.
+pub record Holds (work : List ℕ) (count : ℕ) (x : Term) : Type 0 where
+  pub front : take count work ≡ words x
+  pub extent : count ≡ size x
+  pub short : size x ≤ longest
+  pub closed : Scoped 0 x
+
+-- One step from `x`: the next state stands at the front where there is one and it fits, else `x` does; behind the room for a
+-- state the slice is as it was.
+unfoldable pub Advances : calculus.Next → List ℕ → ℕ → Term → Stepped → List ℕ → Type 0
+Advances calculus.value work count x r after = (r ≡ stepped.Value) × Holds after count x × (drop longest after ≡ drop longest work)
+Advances calculus.stuck work count x r after = (r ≡ stepped.Stuck) × Holds after count x × (drop longest after ≡ drop longest work)
+Advances (calculus.next y) work count x r after =
+    (size y ≤ longest → (r ≡ stepped.To (size y)) × Holds after (size y) y)
+    × (longest < size y → (r ≡ stepped.Full) × Holds after count x)
+    × (drop longest after ≡ drop longest work)
+
+-- A course as the calculus has it: the last state stands at the front.
+pub record Performs (e : Ended) (work : List ℕ) (r : Course) (after : List ℕ) : Type 0 where
+  pub end : end-of (r .end) ≡ e .end
+  pub steps : r .steps ≡ e .steps
+  pub holds : Holds after (r .length) (e .state)
+  pub behind : drop longest after ≡ drop longest work

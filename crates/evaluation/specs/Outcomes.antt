@@ -1,0 +1,36 @@
+-- The outcome of the calculus that the structs and enums of a run stand for.
+use Prim.Native.Nat.{ℕ, _-_}
+use mathlib.Core.List.{List}
+use Rattle.calculus.specs.Answer.{Answer, ok, refused}
+use Rattle.calculus.specs.Run as calculus
+use Rattle.calculus.specs.Outcomes.{Stop}
+use Rattle.calculus.specs.Outcomes as outcomes
+use Rattle.term.specs.Reasons.{reason-of}
+use Rattle.evaluation.specs.declared.End.{End}
+use Rattle.evaluation.specs.declared.End.the-variants as end
+use Rattle.evaluation.specs.declared.Ran.{Ran}
+use Rattle.evaluation.specs.declared.Ran.the-variants as ran
+use Rattle.evaluation.specs.declared.Outcome.{Outcome}
+
+abbrev pub end-of : End → calculus.End
+end-of end.Value = calculus.at-value
+end-of end.Spent = calculus.spent
+end-of end.Stuck = calculus.at-stuck
+end-of end.Long = calculus.too-long
+
+abbrev pub answer-of : Ran → Answer Stop
+answer-of (ran.Ended e s) = ok (record { end = end-of e; steps = s .total })
+answer-of (ran.Refused r) = refused (reason-of (r .reason)) (r .place)
+
+abbrev pub ran-of : Outcome → List ℕ → List ℕ → outcomes.Ran
+ran-of r work state = record { answer = answer-of (r .answer); allowance = r .desk .allowance; work = work; state = state }
+
+-- What a run that ended leaves.
+abbrev pub ended : calculus.End → ℕ → ℕ → List ℕ → List ℕ → outcomes.Ran
+ended e n allowance work state =
+    record {
+      answer = ok (record { end = e; steps = n });
+      allowance = allowance - n;
+      work = outcomes.cleared outcomes.run-room work;
+      state = state;
+    }

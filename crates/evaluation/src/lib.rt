@@ -1,0 +1,171 @@
+// Runs (document 01, Calls): a closed term stepped within a grant, and the desk from which the steps are taken.
+use reduction::clearing::clear;
+use reduction::copying::copy;
+use reduction::stepping::Stepped;
+use reduction::stepping::step;
+use term::reading::Reading;
+use term::reading::read;
+use term::refusal::Reason;
+use term::refusal::Refusal;
+ghost use mathlib.Core.Path.{_≡_};
+ghost use Prim.Native.Nat.{_≤_};
+ghost use lib.ListN.{length};
+ghost use Rattle.calculus.specs.Term.{Term};
+ghost use Rattle.calculus.specs.Words.{Readable, words, longest};
+ghost use Rattle.calculus.specs.Step as calculus;
+ghost use Rattle.calculus.specs.Run.{run-from};
+ghost use Rattle.calculus.specs.Outcomes.{begun, run, run-room};
+ghost use Rattle.calculus.specs.Safety.{SafeRun};
+ghost use Rattle.evaluation.specs.Courses.{Advances, Holds, Performs};
+ghost use Rattle.evaluation.specs.Outcomes.{end-of, ended, ran-of};
+
+// The desk of document 01: one allowance of steps.
+pub struct Desk {
+    pub allowance: u32,
+}
+
+// The ends of a run, in the order of document 01's numbers.
+pub enum End {
+    Value,
+    Spent,
+    Stuck,
+    Long,
+}
+
+// The steps that a run took.
+pub struct Steps {
+    pub total: u32,
+}
+
+pub enum Ran {
+    Ended(End, Steps),
+    Refused(Refusal),
+}
+
+// What a run answers, with the desk after it.
+pub struct Outcome {
+    pub answer: Ran,
+    pub desk: Desk,
+}
+
+// How a run went: its end, its steps, and the length of the state that stands at the front of the working slice.
+pub struct Course {
+    pub end: End,
+    pub steps: u32,
+    pub length: usize,
+}
+
+// Takes one step of the state at the front of `work`, which stays where the next one does not fit. `copied` is for the moment of
+// the step: what is read and what is written cannot lie in one slice.
+fn advance(work: &mut [u16], copied: &mut [u16], count: usize) -> Stepped
+    requires { ⌜ (longest ≤ length (now work)) × (length (now copied) ≡ longest) × ((x : Term) × Holds (now work) count x) ⌝ }
+    ensures { λ r. ⌜ ((x : Term) → Holds (now (work .entry)) count x → Advances (calculus.step x) (now (work .entry)) count x r (now (work .exit))) ⌝ }
+{
+    copy(&work[..count], copied, 0);
+    let stepped = step(&copied[..count], true, &mut work[..1024]);
+    if let Stepped::Full = stepped {
+        copy(&copied[..count], work, 0);
+    }
+    stepped
+}
+
+// Runs the term: the ends are tested in document 01's order before each step.
+fn perform(term: &[u16], grant: u32, work: &mut [u16]) -> Course
+    requires { ⌜ (longest ≤ length (now work)) × ((t : Term) × (now term ≡ words t) × Readable t) ⌝ }
+    ensures { λ r. ⌜ ((t : Term) → now (term .entry) ≡ words t → Readable t → Performs (run-from grant t) (now (work .entry)) r (now (work .exit))) ⌝ }
+{
+    let mut copied = [0u16; 1024];
+    let mut count = term.len();
+    copy(term, work, 0);
+    let mut taken = 0;
+    while taken < grant {
+        match advance(work, &mut copied, count) {
+            Stepped::Value => {
+                return Course {
+                    end: End::Value,
+                    steps: taken,
+                    length: count,
+                };
+            }
+            Stepped::Stuck => {
+                return Course {
+                    end: End::Stuck,
+                    steps: taken,
+                    length: count,
+                };
+            }
+            Stepped::Full => {
+                return Course {
+                    end: End::Long,
+                    steps: taken,
+                    length: count,
+                };
+            }
+            Stepped::To(next) => {
+                count = next;
+            }
+        }
+        taken += 1;
+    }
+    Course {
+        end: End::Spent,
+        steps: taken,
+        length: count,
+    }
+}
+
+// Hands over the state that a run reached, clears the working slice and lowers the allowance.
+fn settle(course: Course, work: &mut [u16], state: &mut [u16], desk: Desk) -> Outcome
+    requires { ⌜ (run-room ≤ length (now work)) × (longest ≤ length (now state)) × (course .steps ≤ desk .allowance) × ((x : Term) × Holds (now work) (course .length) x) ⌝ }
+    ensures { λ r. ⌜ ((x : Term) → Holds (now (work .entry)) (course .length) x → ran-of r (now (work .exit)) (now (state .exit)) ≡ ended (end-of (course .end)) (course .steps) (desk .allowance) (now (work .entry)) (begun (words x) (now (state .entry)))) ⌝ }
+{
+    let count = course.length;
+    let end = course.end;
+    let taken = course.steps;
+    copy(&work[..count], state, 0);
+    clear(work, 8);
+    Outcome {
+        answer: Ran::Ended(end, Steps { total: taken }),
+        desk: Desk {
+            allowance: desk.allowance - taken,
+        },
+    }
+}
+
+// A run of document 01.
+pub fn run(term: &[u16], budget: u32, work: &mut [u16], state: &mut [u16], desk: Desk) -> Outcome
+    ensures outcome { λ r. ⌜ ran-of r (now (work .exit)) (now (state .exit)) ≡ run (now (term .entry)) budget (desk .allowance) (now (work .entry)) (now (state .entry)) ⌝ }
+    ensures safety { λ r. ⌜ SafeRun (now (term .entry)) budget (desk .allowance) (now (work .entry)) (now (state .entry)) (ran-of r (now (work .exit)) (now (state .exit))) ⌝ }
+{
+    if work.len() < 4096 {
+        return Outcome {
+            answer: Ran::Refused(Refusal {
+                reason: Reason::WorkShort,
+                place: 0,
+            }),
+            desk,
+        };
+    }
+    if state.len() < 1024 {
+        return Outcome {
+            answer: Ran::Refused(Refusal {
+                reason: Reason::OutputShort,
+                place: 0,
+            }),
+            desk,
+        };
+    }
+    if let Reading::Refused(refusal) = read(term) {
+        return Outcome {
+            answer: Ran::Refused(refusal),
+            desk,
+        };
+    }
+    let grant = if budget < desk.allowance {
+        budget
+    } else {
+        desk.allowance
+    };
+    let course = perform(term, grant, work);
+    settle(course, work, state, desk)
+}
