@@ -45,7 +45,7 @@ raise-all n t = raise-rename n 0 t ∙ ap (λ ρ. rename ρ t) (fun-ext (λ i. a
 pub raise-moves : (t : Term) → raise 1 0 t ≡ rename suc t
 raise-moves t = raise-all 1 t ∙ ap (λ ρ. rename ρ t) (fun-ext add-one)
 
-raise-more : (n : ℕ) (t : Term) → rename suc (raise n 0 t) ≡ raise (suc n) 0 t
+pub raise-more : (n : ℕ) (t : Term) → rename suc (raise n 0 t) ≡ raise (suc n) 0 t
 raise-more n t =
     ap (rename suc) (raise-all n t)
     ∙ rename-rename suc (λ i. i + n) t

@@ -1,0 +1,54 @@
+-- The annotation of a variable, as it stands in the term: the words from its place on begin with its own, so that the walk over them
+-- measures it. Raising keeps its length, so that it fits the limit raised if it fits as it stands.
+use Prim.Native.Nat.{ℕ, suc, _+_, _≤_}
+use mathlib.Core.List.{List, _++_}
+use mathlib.Core.Path.{_≡_, sym, ap, _∙_, subst}
+use native.Mathlib.Numerals.{add-one}
+use native.Mathlib.Omega.{arith}
+use lib.ListN.{length, take, drop, length-drop}
+use lib.Seq.{take-at}
+use Rattle.calculus.specs.Term.{Term, size, raise}
+use Rattle.calculus.specs.Words.{words, longest}
+use Rattle.calculus.proofs.Coding.{emit-append, emit-length, words-length}
+use Rattle.term.specs.Walk.{span}
+use Rattle.term.proofs.Walking.{span-emit}
+use Rattle.reduction.specs.declared.copying.Room.{Room}
+use Rattle.reduction.specs.Writing.{Writes}
+use Rattle.reduction.specs.Rewriting.{raised}
+use Rattle.reduction.proofs.Rewritten.{raised-words}
+use Rattle.typing.specs.Inference.{Annotation, Raises}
+use Rattle.typing.specs.declared.inference.Inferred.the-variants as inferred
+use Rattle.typing.proofs.Lent.{puts}
+use Rattle.typing.proofs.Raising.{raise-size}
+use Rattle.typing.proofs.Subjects.{behind, behind-drop}
+
+module _ {a : Term} {index : ℕ} {term : List ℕ} {from : ℕ} (A : Annotation a index term from) where
+  pub annotation-span : span (behind from term) 1 ≡ size a
+  annotation-span = ap (λ ws. span ws 1) (behind-drop from term ∙ A .begins) ∙ span-emit a (A .rest)
+
+  pub annotation-words : (n : ℕ) → n ≡ size a → take n (drop from term) ≡ words a
+  annotation-words n same =
+      ap (take n) (A .begins ∙ emit-append a (A .rest))
+      ∙ take-at (words a) (A .rest) n (words-length a ∙ sym same)
+
+  pub annotation-short : size a ≤ longest
+  annotation-short = omega (arith, ap length (A .begins), emit-length a (A .rest), length-drop from term, A .short)
+
+  -- The raised annotation written into the first `top` + `limit` words.
+  pub raises : (place : ℕ) (work : List ℕ) (top limit n m : ℕ) {r : Room} {part : List ℕ}
+      → n ≡ size a
+      → m ≡ size a
+      → n ≤ limit
+      → top + limit ≤ length work
+      → Writes (raised (index + 1) (take m (drop from term))) (take (top + limit) work) top r part
+      → Raises a index place limit work top (inferred.Typed 1 n) (part ++ drop (top + limit) work)
+  raises place work top limit n m {r} {part} same same-part fits room-for w =
+      let τ = raise (suc index) 0 a in
+      let long = raise-size (suc index) 0 a in
+      let e : raised (index + 1) (take m (drop from term)) ≡ words τ =
+      rw (annotation-words m same-part, add-one index) (raised-words (suc index) a) in
+      let p = puts τ work top limit room-for (subst (λ x. Writes x (take (top + limit) work) top r part) e w) in
+      record {
+        fits = λ h. (ap (inferred.Typed 1) same, p .fits (omega arith) .1);
+        over = λ h. absurd (omega arith);
+      }

@@ -1,0 +1,175 @@
+-- Function and argument of an application, once both are typed: the function's type, a product, lies at `top`, and the argument's type
+-- behind it. So its domain and its codomain lie behind the first word.
+use Prim.Native.Nat.{ℕ, suc, _+_, _-_, _≤_}
+use mathlib.Core.Bool.{Bool, true, false}
+use mathlib.Core.List.{List}
+use mathlib.Core.Logic.{_↔_, _≢_}
+use mathlib.Core.Path.{_≡_, refl, sym, ap, subst, _∙_}
+use native.Mathlib.Nat.{add-assoc}
+use native.Mathlib.Omega.{arith}
+use lib.ListN.{length, take, drop, getD}
+use lib.Seq.{take-all, take-at, drop-at, drop-drop, take-take}
+use Rattle.calculus.specs.Term.{Term, app, pi, size}
+use Rattle.calculus.specs.Answer.{ok}
+use Rattle.calculus.specs.Words.{emit, words, Scoped, longest, deepest}
+use Rattle.calculus.specs.Reading.{meaning, a-pi}
+use Rattle.calculus.specs.Rules.{Context}
+use Rattle.calculus.specs.Infer.{infer}
+use Rattle.calculus.proofs.Coding.{emit-append, emit-length, words-length, words-injective}
+use Rattle.reduction.specs.Stepping.{Codes}
+use Rattle.term.specs.Walk.{span}
+use Rattle.term.proofs.Walking.{span-emit}
+use Rattle.typing.specs.Inference.{Subject}
+use Rattle.typing.proofs.Subjects.{behind, between as part-words, of-app, first, second, kept, place-first, place-second}
+use Rattle.typing.proofs.Rooms.{scoped-more, subject-shallow, deeper-scoped}
+use Rattle.typing.proofs.Types.{type-scoped, type-fits}
+use Rattle.typing.proofs.Passing.{Part, lying}
+use Rattle.typing.proofs.Heads.{Headed, lying-headed, lying-pi}
+use Rattle.typing.proofs.Written.{same-part}
+
+-- Function `f` and argument `u` of an application at `p`.
+pub record Called (L : ℕ) (Γ : Context) (p : ℕ) (f u : Term) (places : List ℕ) (depth : ℕ) (work : List ℕ) (top n more m own : ℕ) (after places′ : List ℕ) : Type 0 where
+  pub domain : Term
+  pub codomain : Term
+  pub type : Term
+  pub function : infer L Γ (suc p) f ≡ ok (pi domain codomain)
+  pub argument : infer L Γ (suc p + size f) u ≡ ok type
+  pub read : n ≡ size f
+  pub further : more ≡ size u
+  pub long : m ≡ suc (size domain + size codomain)
+  pub own-long : own ≡ size type
+  pub fits : m ≤ L
+  pub own-fits : own ≤ L
+  pub scoped : Scoped (suc (length Γ)) codomain
+  pub lies : take m (drop top after) ≡ words (pi domain codomain)
+  pub type-lies : take own (drop (top + m) after) ≡ words type
+  pub front : take top after ≡ take top work
+  pub context : take depth places′ ≡ take depth places
+  pub wide : length places′ ≡ length places
+
+module _ {Γ : Context} {f u : Term} {term sub places : List ℕ} {depth : ℕ} (S : Subject Γ (app f u) term sub places depth) (L : ℕ)
+    {work : List ℕ} {top n m : ℕ} {between places₁ : List ℕ}
+    (F : Part (infer L Γ (length term - length (behind 1 sub)) f) f places depth work top n m between places₁) where
+  pub argument-subject : Subject Γ u term (behind (1 + n) sub) places₁ depth
+  argument-subject = second (kept S (F .context) (F .wide)) (1 + n) of-app (ap (λ k. 1 + k) (F .read))
+
+  pub argument-words : {more : ℕ} → more ≡ size u → take (1 + n + more - (1 + n)) (drop (1 + n) sub) ≡ words u
+  argument-words {more} x = part-words sub (1 + n) (1 + n + more - (1 + n)) argument-subject (omega arith)
+
+  pub function-found : infer L Γ (suc (length term - length sub)) f ≡ ok (F .type)
+  function-found = rw (← place-first S) (F .found)
+
+  -- The first word decides whether its type is a product.
+  pub other-type : meaning (getD between top 0) ≢ a-pi → (a b : Term) → F .type ≢ pi a b
+  other-type n a b x = n (lying-pi a b m top between (F .lies ∙ ap words x) (F .long ∙ ap size x))
+
+  pub is-product : a-pi ≡ meaning (getD between top 0) → (a : Term) × (b : Term) × (F .type ≡ pi a b)
+  unfolding Headed
+  is-product w =
+      subst
+      (λ k. Headed k (F .type))
+      (sym w)
+      (lying-headed (F .type) m top between (F .lies) (F .long) (deeper-scoped S (F .type) (type-scoped (first S of-app) L _ (F .found))))
+
+  pub function-product : (w : a-pi ≡ meaning (getD between top 0))
+      → infer L Γ (suc (length term - length sub)) f ≡ ok (pi (is-product w .0) (is-product w .1))
+  function-product w = function-found ∙ ap ok (is-product w .2)
+
+  pub called : {more own : ℕ} {after places′ : List ℕ}
+      → a-pi ≡ meaning (getD between top 0)
+      → Part (infer L Γ (length term - length (behind (1 + n) sub)) u) u places₁ depth between (top + m) more own after places′
+      → Called L Γ (length term - length sub) f u places depth work top n more m own after places′
+  unfolding size Scoped
+  called {after} w U =
+      let x = is-product w .2 in
+      record {
+        domain = is-product w .0;
+        codomain = is-product w .1;
+        type = U .type;
+        function = function-product w;
+        argument = rw (← place-second S of-app (1 + n) (ap (λ k. 1 + k) (F .read))) (U .found);
+        read = F .read;
+        further = U .read;
+        long = F .long ∙ ap size x;
+        own-long = U .long;
+        fits = omega (arith, F .long, type-fits (first S of-app) L _ (F .found));
+        own-fits = omega (arith, U .long, type-fits argument-subject L _ (U .found));
+        scoped = subst (Scoped (length Γ)) x (type-scoped (first S of-app) L _ (F .found)) .1;
+        lies = same-part between after top m (U .front) ∙ F .lies ∙ ap words x;
+        type-lies = U .lies;
+        front =
+            sym (take-take top (top + m) after (omega arith))
+            ∙ ap (take top) (U .front)
+            ∙ take-take top (top + m) between (omega arith)
+            ∙ F .front;
+        context = U .context ∙ F .context;
+        wide = U .wide ∙ F .wide;
+      }
+
+-- A part of what lies at `top`.
+inner : (l ws : List ℕ) (top m j k : ℕ) → take m (drop top l) ≡ ws → j + k ≤ m → take k (drop (top + j) l) ≡ take k (drop j ws)
+inner l ws top m j k x h =
+    ap (take k) (sym (drop-drop j top l))
+    ∙ same-part (take m (drop top l)) (drop top l) j k (sym (take-take (j + k) m (drop top l) h))
+    ∙ ap (λ r. take k (drop j r)) x
+
+module _ {L : ℕ} {Γ : Context} {p : ℕ} {f u : Term} {places : List ℕ} {depth : ℕ} {work : List ℕ} {top n more m own : ℕ} {after places′ : List ℕ}
+    (C : Called L Γ p f u places depth work top n more m own after places′) where
+  -- What the function's type begins with.
+  pub domain-span : span (take (top + m - (top + 1)) (drop (top + 1) after)) 1 ≡ size (C .domain)
+  unfolding words emit
+  domain-span =
+      ap
+      (λ ws. span ws 1)
+      (inner after (words (pi (C .domain) (C .codomain))) top m 1 (top + m - (top + 1)) (C .lies) (omega (arith, C .long))
+      ∙ take-all
+      (top + m - (top + 1))
+      (emit (C .domain) (words (C .codomain)))
+      (omega (arith, C .long, emit-length (C .domain) (words (C .codomain)), words-length (C .codomain))))
+      ∙ span-emit (C .domain) (words (C .codomain))
+
+  module _ {d : ℕ} (x : d ≡ size (C .domain)) where
+    domain-words : take d (drop (top + 1) after) ≡ words (C .domain)
+    unfolding words emit
+    domain-words =
+        inner after (words (pi (C .domain) (C .codomain))) top m 1 d (C .lies) (omega (arith, C .long))
+        ∙ ap (take d) (emit-append (C .domain) (words (C .codomain)))
+        ∙ take-at (words (C .domain)) (words (C .codomain)) d (words-length (C .domain) ∙ sym x)
+
+    pub codomain-words : take (m - 1 - d) (drop (top + 1 + d) after) ≡ words (C .codomain)
+    unfolding words emit
+    codomain-words =
+        ap (λ k. take (m - 1 - d) (drop k after)) (add-assoc top 1 d)
+        ∙ inner after (words (pi (C .domain) (C .codomain))) top m (1 + d) (m - 1 - d) (C .lies) (omega (arith, C .long))
+        ∙ ap
+        (take (m - 1 - d))
+        (sym (drop-drop d 1 (words (pi (C .domain) (C .codomain))))
+        ∙ ap (drop d) (emit-append (C .domain) (words (C .codomain)))
+        ∙ drop-at (words (C .domain)) (words (C .codomain)) d (words-length (C .domain) ∙ sym x))
+        ∙ take-all (m - 1 - d) (words (C .codomain)) (omega (arith, C .long, words-length (C .codomain)))
+
+    pub codomain-codes : {term sub : List ℕ}
+        → Subject Γ (app f u) term sub places depth
+        → L ≤ longest
+        → Codes (take (m - 1 - d) (drop (top + 1 + d) after)) false
+    codomain-codes S h =
+        record {
+          term = C .codomain;
+          coded = codomain-words;
+          short = omega (arith, C .long, C .fits);
+          scoped = scoped-more (C .codomain) (omega (arith, S .around, subject-shallow S)) (C .scoped);
+          shut = λ z. let y : _≡_ {A = ℕ} 0 1 = cc in absurd (omega arith);
+        }
+
+    -- The comparison of domain and argument.
+    module _ (alike : Bool) (y : own ≡ d)
+        (tells : (alike ≡ true) ↔ (take d (drop (top + 1) after) ≡ take d (drop (top + m) after))) where
+      pub same-type : alike ≡ true → C .type ≡ C .domain
+      same-type z =
+          words-injective
+          (C .type)
+          (C .domain)
+          (sym (C .type-lies) ∙ ap (λ k. take k (drop (top + m) after)) y ∙ sym (tells .0 z) ∙ domain-words)
+
+      pub told-same : C .type ≡ C .domain → alike ≡ true
+      told-same z = tells .1 (domain-words ∙ ap words (sym z) ∙ sym (C .type-lies) ∙ ap (λ k. take k (drop (top + m) after)) y)

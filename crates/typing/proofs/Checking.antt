@@ -1,0 +1,160 @@
+-- What a check answers at each way out, as the demand on checks states it. Past the tests of the call and of reading, the words are
+-- those of a closed term, which inference takes as a subject with no context. Whatever inference left in the working slice is cleared,
+-- and the type that it found is what the output then begins with.
+use Prim.Native.Nat.{ℕ, suc, _-_, _≤_}
+use mathlib.Core.List.{List, [], _++_}
+use mathlib.Core.Path.{_≡_, refl, sym, ap, _∙_, subst}
+use native.Mathlib.Nat.{zero-add, mul-le-mul-right}
+use native.Mathlib.Omega.{arith}
+use lib.ListN.{length, take, drop, replicate, length-replicate, length-append}
+use lib.Seq.{sets, drop-at, take-append-le, length-take-le}
+use Rattle.calculus.specs.Term.{Term, size}
+use Rattle.calculus.specs.Answer.{Answer, ok, refused}
+use Rattle.calculus.specs.Words.{words, levels, Readable, deepest}
+use Rattle.calculus.specs.Reading.{read}
+use Rattle.calculus.specs.Rules.{env-empty}
+use Rattle.calculus.specs.Infer.{infer}
+use Rattle.calculus.specs.Outcomes.{check-room, begun, cleared, check}
+use Rattle.calculus.specs.Checks.{Allowed, Checks, unread, untyped, typed}
+use Rattle.calculus.proofs.Coding.{words-length}
+use Rattle.calculus.proofs.CheckDemand.{check-answer}
+use Rattle.calculus.proofs.Inference.{infer-sound, refused-sound}
+use Rattle.term.specs.Reasons.{reason-of}
+use Rattle.term.specs.Subterms.{outcome}
+use Rattle.term.specs.declared.refusal.Refusal.{Refusal}
+use Rattle.reduction.specs.declared.copying.Room.{Room}
+use Rattle.reduction.specs.Writing.{Writes}
+use Rattle.typing.specs.declared.Checked.{Checked}
+use Rattle.typing.specs.declared.Checked.the-variants as checked
+use Rattle.typing.specs.declared.inference.Inferred.{Inferred}
+use Rattle.typing.specs.declared.inference.Inferred.the-variants as inferred
+use Rattle.typing.specs.Inference.{Subject, Placed, Roomy, Infers, finds, refuses, inferred-of}
+use Rattle.typing.specs.Outcomes.{checked-of}
+use Rattle.typing.proofs.Scoping.{inferred-fits}
+use Rattle.typing.proofs.Passing as passing
+use Rattle.typing.proofs.Stored.{sets-between}
+
+-- A refusal that leaves the slices as they were.
+pub refused-out : {ws : List ℕ} {L : ℕ} {W O : List ℕ} {r : Checked} {f : Refusal}
+    → r ≡ checked.Refused f
+    → Checks ws L W O (record { answer = refused (reason-of (f .reason)) (f .place); work = W; output = O })
+    → checked-of r W O ≡ check ws L W O
+refused-out {ws} {L} {W} {O} q d = ap (λ r. checked-of r W O) q ∙ sym (check-answer ws L W O d)
+
+-- The limit is allowed, and the slices are long enough.
+pub record Admitted (L : ℕ) (W O : List ℕ) : Type 0 where
+  pub allowed : Allowed L
+  pub room : check-room L ≤ length W
+  pub out : L ≤ length O
+
+-- Reading refuses.
+pub unread-out : (ws : List ℕ) {L : ℕ} {W O : List ℕ} (f : Refusal)
+    → Admitted L W O
+    → refused (reason-of (f .reason)) (f .place) ≡ outcome (read ws)
+    → checked-of (checked.Refused f) W O ≡ check ws L W O
+unread-out ws f A e = refused-out {f = f} refl (unread (A .allowed) (A .room) (A .out) (on (read ws) e))
+  where
+    on : (x : Answer Term) → refused (reason-of (f .reason)) (f .place) ≡ outcome x → x ≡ refused (reason-of (f .reason)) (f .place)
+    on (ok t) e = let z : _≡_ {A = ℕ} 0 1 = cc in absurd (omega arith)
+    on (refused r p) e = sym (cc)
+
+module _ {ws : List ℕ} {L : ℕ} {W O : List ℕ} {t : Term} (A : Admitted L W O) (coded : ws ≡ words t) (readable : Readable t) where
+  pub whole : (places : List ℕ) → length places ≡ deepest → Subject [] t ws ws places 0
+  unfolding words Placed
+  whole places enough =
+      let none : length ws - length ws ≡ 0 = omega arith in
+      record {
+        rest = [];
+        begins = coded;
+        ends = rw none refl;
+        within = omega arith;
+        short = omega (arith, ap length coded, words-length t, readable .short);
+        around = refl;
+        placed = tt;
+        wide = enough;
+        well-formed = env-empty;
+        scoped = readable .closed;
+        deep = omega (arith, readable .shallow);
+      }
+
+  pub roomy : Roomy t (take (check-room L) W) 0 L
+  roomy =
+      record {
+        some = A .allowed .0;
+        allowed = A .allowed .1;
+        room =
+            let few : suc (levels t) ≤ 512 = omega (arith, readable .shallow) in
+            omega (arith, length-take-le (check-room L) W (A .room), mul-le-mul-right L few);
+      }
+
+-- Inference was asked for the type of the whole term, answered `r` and left `after` in the first words of the working slice.
+pub record Asked (ws : List ℕ) (L : ℕ) (W O : List ℕ) (r : Inferred) (after : List ℕ) : Type 0 where
+  pub admitted : Admitted L W O
+  pub term : Term
+  pub coded : ws ≡ words term
+  pub readable : Readable term
+  pub place : ℕ
+  pub outermost : place ≡ 0
+  pub places : List ℕ
+  pub places′ : List ℕ
+  pub infers : Infers (infer L [] place term) term places 0 (take (check-room L) W) 0 r after places′
+  pub kept : length after ≡ length (take (check-room L) W)
+
+module _ {ws : List ℕ} {L : ℕ} {W O : List ℕ} {r : Inferred} {after : List ℕ} (a : Asked ws L W O r after) where
+  open Asked a using (admitted, term, coded, readable, place, outermost, places, places′, infers, kept)
+  open Admitted admitted using (allowed, room, out)
+
+  long : length after ≡ check-room L
+  long = kept ∙ length-take-le (check-room L) W room
+
+  cleared-all : cleared (check-room L) (after ++ drop (check-room L) W) ≡ cleared (check-room L) W
+  unfolding cleared begun
+  cleared-all =
+      let zeros = length-replicate {A = ℕ} (check-room L) 0 in
+      ap
+      (λ l. replicate (check-room L) 0 ++ l)
+      (drop-at after (drop (check-room L) W) (length (replicate (check-room L) 0)) (long ∙ sym zeros) ∙ ap (λ n. drop n W) (sym zeros))
+
+  pub untyped-out : {f : Refusal} {work′ : List ℕ}
+      → r ≡ inferred.Refused f
+      → work′ ≡ cleared (check-room L) (after ++ drop (check-room L) W)
+      → checked-of (checked.Refused f) work′ O ≡ check ws L W O
+  untyped-out {f} q e =
+      let x = subst (λ n. infer L [] n term ≡ refused (reason-of (f .reason)) (f .place)) outermost (turned infers) in
+      let d = refused-sound env-empty (readable .closed) x in
+      ap (λ w. checked-of (checked.Refused f) w O) (e ∙ cleared-all)
+      ∙ sym (check-answer ws L W O (untyped allowed room out coded readable d))
+    where
+      turned : {x : Answer Term}
+          → Infers x term places 0 (take (check-room L) W) 0 r after places′
+          → x ≡ refused (reason-of (f .reason)) (f .place)
+      turned (finds g) = let z : _≡_ {A = ℕ} 0 1 = cc (g .answer, q) in absurd (omega arith)
+      turned (refuses g) = let same = sym g ∙ ap inferred-of q in cc
+
+  module _ {n m : ℕ} (q : r ≡ inferred.Typed n m) where
+    open passing.Part (passing.typed infers q) using (type as τ, found, long as type-long, lies)
+
+    type-short : m ≤ L
+    type-short = omega (arith, type-long, inferred-fits L place term env-empty (readable .closed) found)
+
+    pub type-within : m ≤ length (after ++ drop (check-room L) W)
+    type-within = omega (arith, type-short, long, length-append after (drop (check-room L) W))
+
+    pub typed-out : {o : Room} {work′ output′ : List ℕ}
+        → Writes (take m (after ++ drop (check-room L) W)) O 0 o output′
+        → work′ ≡ cleared (check-room L) (after ++ drop (check-room L) W)
+        → checked-of (checked.Typed m) work′ output′ ≡ check ws L W O
+    unfolding begun
+    typed-out {work′} {output′} w e =
+        let d = infer-sound 0 env-empty (readable .closed) (subst (λ k. infer L [] k term ≡ ok τ) outermost found) in
+        let fits : size τ ≤ length O = omega (arith, out, type-short, type-long) in
+        let source : take m (after ++ drop (check-room L) W) ≡ words τ =
+        take-append-le m after (drop (check-room L) W) (omega (arith, type-short, long)) ∙ lies in
+        let many = ap length source ∙ words-length τ in
+        let stored : output′ ≡ sets O 0 (words τ) = w .fits (omega arith) .1 ∙ ap (sets O 0) source in
+        let begins : sets O 0 (words τ) ≡ begun (words τ) O =
+        sets-between O (words τ) 0 (omega (arith, words-length τ)) ∙ ap (λ k. words τ ++ drop k O) (zero-add (length (words τ))) in
+        ap (λ k. checked-of (checked.Typed k) work′ output′) type-long
+        ∙ ap (λ l. checked-of (checked.Typed (size τ)) l output′) (e ∙ cleared-all)
+        ∙ ap (checked-of (checked.Typed (size τ)) (cleared (check-room L) W)) (stored ∙ begins)
+        ∙ sym (check-answer ws L W O (typed allowed room out coded readable d))

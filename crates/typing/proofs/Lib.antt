@@ -1,0 +1,25 @@
+-- Lemmas for the proofs of this crate's functions.
+pub mod Scoping
+pub mod Passing
+pub mod Subjects
+pub mod Rooms
+pub mod Alike
+pub mod Stored
+pub mod Raising
+pub mod Types
+pub mod Parts
+pub mod Written
+pub mod Moved
+pub mod Casting
+pub mod Heads
+pub mod Coded
+pub mod Lent
+pub mod Annotated
+pub mod Checking
+pub mod Compared
+pub mod Applying
+pub mod Calling
+pub mod Putting
+pub mod Binding
+pub mod Products
+pub mod Variables

@@ -1,0 +1,286 @@
+-- The parts of a subterm are subjects of inference themselves: the words behind a node's first word begin with its first part, and
+-- those behind that with its second; a part's place is the node's and the words before the part; places that are written from `depth`
+-- on change nothing for the annotations around.
+use Prim.Native.Nat.{ℕ, suc, _+_, _-_, _≤_, _<_}
+use mathlib.Core.List.{List, [], _∷_}
+use mathlib.Core.Path.{_≡_, refl, sym, ap, subst, _∙_}
+use native.Mathlib.Nat.{le-refl}
+use native.Mathlib.Numerals.{add-one}
+use native.Mathlib.Omega.{arith}
+use lib.ListN.{length, take, drop, getD, set, length-drop, length-set}
+use lib.Seq.{take-all, take-at, drop-at, drop-drop, take-take, take-set-le, getD-take, getD-set-same}
+use Rattle.calculus.specs.Term.{Term, star, app, lam, pi, castup, castdown, mu, size}
+use Rattle.calculus.specs.Words.{emit, words, levels, Scoped, deepest}
+use Rattle.calculus.specs.Rules.{Context, WellFormed, env-var, _⊢_⦂_}
+use Rattle.calculus.proofs.Coding.{emit-append, emit-length, words-length, size-positive}
+use Rattle.typing.specs.Inference.{Subject, Placed}
+
+-- `Two k e a b`: the node `e` has the parts `a` and `b`, and binds `k` variables in `b`.
+pub data Two : ℕ → Term → Term → Term → Type 0 where
+  of-app : {f u : Term} → Two 0 (app f u) f u
+  of-castup : {a e : Term} → Two 0 (castup a e) a e
+  of-lam : {a e : Term} → Two 1 (lam a e) a e
+  of-pi : {a b : Term} → Two 1 (pi a b) a b
+  of-mu : {a e : Term} → Two 1 (mu a e) a e
+
+pub two-size : {k : ℕ} {e a b : Term} → Two k e a b → size e ≡ suc (size a + size b)
+unfolding size
+two-size of-app = refl
+two-size of-castup = refl
+two-size of-lam = refl
+two-size of-pi = refl
+two-size of-mu = refl
+
+pub two-levels : {k : ℕ} {e a b : Term} → Two k e a b → (levels a < levels e) × (levels b < levels e)
+unfolding levels
+two-levels of-app = omega arith
+two-levels of-castup = omega arith
+two-levels of-lam = omega arith
+two-levels of-pi = omega arith
+two-levels of-mu = omega arith
+
+two-emit : {k : ℕ} {e a b : Term} → Two k e a b → (r : List ℕ) → drop 1 (emit e r) ≡ emit a (emit b r)
+unfolding emit
+two-emit of-app r = refl
+two-emit of-castup r = refl
+two-emit of-lam r = refl
+two-emit of-pi r = refl
+two-emit of-mu r = refl
+
+first-scoped : {k : ℕ} {e a b : Term} → Two k e a b → (n : ℕ) → Scoped n e → Scoped n a
+unfolding Scoped
+first-scoped of-app n s = s .0
+first-scoped of-castup n s = s .0
+first-scoped of-lam n s = s .0
+first-scoped of-pi n s = s .0
+first-scoped of-mu n s = s .0
+
+second-scoped : {e a b : Term} → Two 0 e a b → (n : ℕ) → Scoped n e → Scoped n b
+unfolding Scoped
+second-scoped of-app n s = s .1
+second-scoped of-castup n s = s .1
+
+under-scoped : {e a b : Term} → Two 1 e a b → (n : ℕ) → Scoped n e → Scoped (suc n) b
+unfolding Scoped
+under-scoped of-lam n s = s .1
+under-scoped of-pi n s = s .1
+under-scoped of-mu n s = s .1
+
+-- The words from the `k`th on, as the code takes them.
+abbrev pub behind : ℕ → List ℕ → List ℕ
+behind k ws = take (length ws - k) (drop k ws)
+
+pub behind-drop : (k : ℕ) (ws : List ℕ) → behind k ws ≡ drop k ws
+behind-drop k ws = take-all (length ws - k) (drop k ws) (omega (arith, length-drop k ws))
+
+pub behind-length : (k : ℕ) (ws : List ℕ) → length (behind k ws) ≡ length ws - k
+behind-length k ws = ap length (behind-drop k ws) ∙ length-drop k ws
+
+-- Only the places below `depth` matter.
+placed-kept : (term : List ℕ) (Γ : Context) (places places′ : List ℕ) (depth : ℕ)
+    → length Γ ≤ depth
+    → take depth places′ ≡ take depth places
+    → Placed term Γ places
+    → Placed term Γ places′
+unfolding Placed
+placed-kept term [] places places′ depth h x p = tt
+placed-kept term (a ∷ Γ) places places′ depth h x p =
+    ((p .0 .0, rw same (p .0 .1)), rw same (p .1), placed-kept term Γ places places′ depth (omega arith) x (p .2))
+  where
+    same : getD places′ (length Γ) 0 ≡ getD places (length Γ) 0
+    same =
+        sym (getD-take depth places′ (length Γ) 0 h)
+        ∙ ap (λ ps. getD ps (length Γ) 0) x
+        ∙ getD-take depth places (length Γ) 0 h
+
+-- The places below `depth`, after one was written at `depth` and others from `depth` + 1 on.
+pub still : (depth place : ℕ) (places before after : List ℕ)
+    → take depth before ≡ take depth places
+    → take (depth + 1) after ≡ take (depth + 1) (set before depth place)
+    → take depth after ≡ take depth places
+still depth place places before after x y =
+    sym (take-take depth (depth + 1) after (omega arith))
+    ∙ ap (take depth) y
+    ∙ take-take depth (depth + 1) (set before depth place) (omega arith)
+    ∙ take-set-le depth before depth place (le-refl depth)
+    ∙ x
+
+module _ {Γ : Context} {e : Term} {term sub places : List ℕ} {depth : ℕ} (S : Subject Γ e term sub places depth) where
+  pub subject-long : size e ≤ length sub
+  subject-long = omega (arith, ap length (S .begins), emit-length e (S .rest))
+
+  pub subject-some : 1 ≤ length sub
+  subject-some = omega (arith, subject-long, size-positive e)
+
+  -- Where the words from the `k`th on stand.
+  further : (k : ℕ) → k ≤ length sub → length term - length (behind k sub) ≡ (length term - length sub) + k
+  further k h = omega (arith, behind-length k sub, S .within)
+
+  -- A subject among the words from the `k`th on.
+  at-end : {Γ′ : Context} {a : Term} {places′ : List ℕ} {depth′ : ℕ} (k : ℕ) (r : List ℕ)
+      → k ≤ length sub
+      → drop k sub ≡ emit a r
+      → depth′ ≡ length Γ′
+      → length places′ ≡ deepest
+      → Placed term Γ′ places′
+      → WellFormed Γ′
+      → Scoped depth′ a
+      → depth′ + levels a ≤ deepest
+      → Subject Γ′ a term (behind k sub) places′ depth′
+  at-end k r h x d v p w s l =
+      record {
+        rest = r;
+        begins = behind-drop k sub ∙ x;
+        ends =
+            behind-drop k sub
+            ∙ ap (drop k) (S .ends)
+            ∙ drop-drop k (length term - length sub) term
+            ∙ ap (λ n. drop n term) (sym (further k h));
+        within = omega (arith, behind-length k sub, S .within);
+        short = S .short;
+        around = d;
+        wide = v;
+        placed = p;
+        well-formed = w;
+        scoped = s;
+        deep = l;
+      }
+
+  pub kept : {places′ : List ℕ}
+      → take depth places′ ≡ take depth places
+      → length places′ ≡ length places
+      → Subject Γ e term sub places′ depth
+  kept {places′} x l =
+      record {
+        rest = S .rest;
+        begins = S .begins;
+        ends = S .ends;
+        within = S .within;
+        short = S .short;
+        around = S .around;
+        wide = l ∙ S .wide;
+        placed = placed-kept term Γ places places′ depth (omega (arith, S .around)) x (S .placed);
+        well-formed = S .well-formed;
+        scoped = S .scoped;
+        deep = S .deep;
+      }
+
+  -- What stands behind the first word and behind the first part.
+  module _ {k : ℕ} {a b : Term} (h : Two k e a b) where
+    first-words : drop 1 sub ≡ emit a (emit b (S .rest))
+    first-words = ap (drop 1) (S .begins) ∙ two-emit h (S .rest)
+
+    second-words : drop (1 + size a) sub ≡ emit b (S .rest)
+    second-words =
+        sym (drop-drop (size a) 1 sub)
+        ∙ ap (drop (size a)) (first-words ∙ emit-append a (emit b (S .rest)))
+        ∙ drop-at (words a) (emit b (S .rest)) (size a) (words-length a)
+
+    pub subject-parts : suc (size a + size b) ≤ length sub
+    subject-parts = omega (arith, subject-long, two-size h)
+
+    pub first : Subject Γ a term (behind 1 sub) places depth
+    first =
+        at-end
+        1
+        (emit b (S .rest))
+        (omega (arith, subject-long, two-size h))
+        first-words
+        (S .around)
+        (S .wide)
+        (S .placed)
+        (S .well-formed)
+        (first-scoped h depth (S .scoped))
+        (omega (arith, two-levels h, S .deep))
+
+    pub place-second : (from : ℕ) → from ≡ 1 + size a → length term - length (behind from sub) ≡ suc (length term - length sub) + size a
+    place-second from x = omega (arith, further from (omega (arith, subject-long, two-size h)))
+
+  pub inside : {a : Term} → e ≡ castdown a → Subject Γ a term (behind 1 sub) places depth
+  inside {a} x =
+      at-end
+      1
+      (S .rest)
+      subject-some
+      (ap (drop 1) (S .begins) ∙ unfold emit in ap (λ t. drop 1 (emit t (S .rest))) x)
+      (S .around)
+      (S .wide)
+      (S .placed)
+      (S .well-formed)
+      (unfold Scoped in subst (Scoped depth) x (S .scoped))
+      (unfold levels in omega (arith, ap levels x, S .deep))
+
+  pub place-first : length term - length (behind 1 sub) ≡ suc (length term - length sub)
+  place-first = omega (arith, further 1 subject-some)
+
+module _ {Γ : Context} {e a b : Term} {term sub places : List ℕ} {depth : ℕ} (S : Subject Γ e term sub places depth) where
+  pub second : (from : ℕ) → Two 0 e a b → from ≡ 1 + size a → Subject Γ b term (behind from sub) places depth
+  second from h x =
+      at-end
+      S
+      from
+      (S .rest)
+      (omega (arith, subject-long S, two-size h))
+      (ap (λ n. drop n sub) x ∙ second-words S h)
+      (S .around)
+      (S .wide)
+      (S .placed)
+      (S .well-formed)
+      (second-scoped h depth (S .scoped))
+      (omega (arith, two-levels h, S .deep))
+
+  -- The same under the first part, whose place is written.
+  pub under : (from place : ℕ)
+      → Two 1 e a b
+      → from ≡ 1 + size a
+      → place ≡ length term - length sub + 1
+      → Γ ⊢ a ⦂ star
+      → Subject (a ∷ Γ) b term (behind from sub) (set places depth place) (depth + 1)
+  unfolding Placed
+  under from place h x y t =
+      at-end
+      S
+      from
+      (S .rest)
+      (omega (arith, subject-long S, two-size h))
+      (ap (λ n. drop n sub) x ∙ second-words S h)
+      (omega (arith, S .around))
+      (length-set places depth place ∙ S .wide)
+      ((emit b (S .rest), ap (λ n. drop n term) at-place ∙ begins), omega (arith, at-place, subject-long S, two-size h, S .within), others)
+      (env-var (S .well-formed) t)
+      (rw add-one (under-scoped h depth (S .scoped)))
+      (omega (arith, two-levels h, S .deep))
+    where
+      at-place : getD (set places depth place) (length Γ) 0 ≡ length term - length sub + 1
+      at-place = ap (λ n. getD (set places depth place) n 0) (sym (S .around)) ∙ getD-set-same places depth place 0 (omega (arith, two-levels h, S .deep, S .wide)) ∙ y
+
+      begins : drop (length term - length sub + 1) term ≡ emit a (emit b (S .rest))
+      begins = sym (drop-drop 1 (length term - length sub) term) ∙ ap (drop 1) (sym (S .ends)) ∙ first-words S h
+
+      others : Placed term Γ (set places depth place)
+      others =
+          placed-kept
+          term
+          Γ
+          places
+          (set places depth place)
+          depth
+          (omega (arith, S .around))
+          (take-set-le depth places depth place (le-refl depth))
+          (S .placed)
+
+-- A part's own words.
+pub between : {Γ : Context} {e : Term} {term places : List ℕ} {depth : ℕ} (sub : List ℕ) (from n : ℕ)
+    → Subject Γ e term (behind from sub) places depth
+    → n ≡ size e
+    → take n (drop from sub) ≡ words e
+between {e} sub from n S x =
+    ap (take n) (sym (behind-drop from sub) ∙ S .begins ∙ emit-append e (S .rest))
+    ∙ take-at (words e) (S .rest) n (words-length e ∙ sym x)
+
+-- A subject by another name.
+pub renamed : {Γ : Context} {e e′ : Term} {term sub places : List ℕ} {depth : ℕ}
+    → Subject Γ e term sub places depth
+    → e ≡ e′
+    → Subject Γ e′ term sub places depth
+renamed {Γ} {term} {sub} {places} {depth} S x = subst (λ d. Subject Γ d term sub places depth) x S

@@ -1,0 +1,25 @@
+-- The cycle of calls that infers a type meets its contracts: each member's needs are answered in a module of its own.
+mod Measures
+mod Abstraction
+mod Application
+mod CastDown
+mod CastUp
+mod Infer
+mod Product
+mod Recursion
+mod StarPart
+use Rattle.typing.proofs.inference.+abstraction+application+cast_down+cast_up+infer+product+recursion+star_part.Proof.Measures.{μ-abstraction, μ-application, μ-cast-down, μ-cast-up, μ-infer, μ-product, μ-recursion, μ-star-part}
+use Rattle.typing.proofs.inference.+abstraction+application+cast_down+cast_up+infer+product+recursion+star_part.Proof.Abstraction.{abstraction-part}
+use Rattle.typing.proofs.inference.+abstraction+application+cast_down+cast_up+infer+product+recursion+star_part.Proof.Application.{application-part}
+use Rattle.typing.proofs.inference.+abstraction+application+cast_down+cast_up+infer+product+recursion+star_part.Proof.CastDown.{cast-down-part}
+use Rattle.typing.proofs.inference.+abstraction+application+cast_down+cast_up+infer+product+recursion+star_part.Proof.CastUp.{cast-up-part}
+use Rattle.typing.proofs.inference.+abstraction+application+cast_down+cast_up+infer+product+recursion+star_part.Proof.Infer.{infer-part}
+use Rattle.typing.proofs.inference.+abstraction+application+cast_down+cast_up+infer+product+recursion+star_part.Proof.Product.{product-part}
+use Rattle.typing.proofs.inference.+abstraction+application+cast_down+cast_up+infer+product+recursion+star_part.Proof.Recursion.{recursion-part}
+use Rattle.typing.proofs.inference.+abstraction+application+cast_down+cast_up+infer+product+recursion+star_part.Proof.StarPart.{star-part-part}
+use Rattle.typing.proofs.inference.+abstraction+application+cast_down+cast_up+infer+product+recursion+star_part.{statement}
+use Rattle.typing.proofs.inference.+abstraction+application+cast_down+cast_up+infer+product+recursion+star_part.Tie.{close}
+
+pub +abstraction+application+cast-down+cast-up+infer+product+recursion+star-part-spec : {M : Type 1} → statement M
++abstraction+application+cast-down+cast-up+infer+product+recursion+star-part-spec {M} =
+    close μ-abstraction μ-application μ-cast-down μ-cast-up μ-infer μ-product μ-recursion μ-star-part (abstraction-part M) (application-part M) (cast-down-part M) (cast-up-part M) (infer-part M) (product-part M) (recursion-part M) (star-part-part M)

@@ -1,0 +1,437 @@
+-- `application` meets its contract: what is asked of function and argument is what inference asks of them, the comparison compares
+-- the argument's type with the domain, and what is put in and written is the codomain.
+use Prim.Native.Nat.{ℕ, suc, _+_, _-_, _*_, _≤_, _<_, _^_}
+use mathlib.Core.Path.{_≡_, refl, sym, ap, _∙_}
+use native.Mathlib.Omega.{arith}
+use lib.ListN.{length}
+use borrow.Author.Needs.{needs}
+use borrow.Author.Tests.{eqb-true, not-true, not-false}
+use Rattle.calculus.specs.Term.{Term, app, size, substitute}
+use Rattle.calculus.specs.Words.{longest}
+use Rattle.calculus.specs.Rules.{Context}
+use Rattle.term.specs.Word.{meaning-of}
+use Rattle.calculus.proofs.Testing.{fitting, over}
+use Rattle.typing.specs.Inference.{Subject}
+use Rattle.typing.specs.Moving.{Puts}
+use Rattle.typing.proofs.Applying.{by-function, no-function, by-argument, wrong, right}
+use Rattle.typing.proofs.Calling.{Called, called, argument-subject, function-found, function-product, other-type, domain-span, codomain-words, codomain-codes, argument-words, same-type, told-same}
+use Rattle.typing.proofs.Heads.{not-product}
+use Rattle.typing.proofs.Passing.{passed, typed, turned, found}
+use Rattle.typing.proofs.Putting.{put, put-over}
+use Rattle.typing.proofs.Rooms.{roomy-part, room-two, subject-codes}
+use Rattle.typing.proofs.Subjects.{of-app, first, subject-some, subject-parts, two-levels, behind-length, place-first, place-second}
+use Rattle.typing.proofs.Types.{type-fits}
+use Rattle.typing.proofs.Written.{written-type}
+use Rattle.typing.proofs.inference.application.Reads as application
+use Rattle.typing.proofs.inference.+abstraction+application+cast_down+cast_up+infer+product+recursion+star_part.Lts-application as application-lts
+use Rattle.typing.proofs.inference.+abstraction+application+cast_down+cast_up+infer+product+recursion+star_part.Proof.Measures.{application-at, application-claims}
+
+-- The function is typed: the words up to the argument, and the room up to where its type will lie.
+record Reach (from sub next room : ℕ) : Type 0 where
+  within : from ≤ sub
+  short : sub ≤ longest
+  fits : next ≤ room
+  small : room * 2 < 2 ^ 63
+
+reach : (t : ℕ) (c : application-lts.After-enum-told2 (application-claims t) (application-at t) application.Post)
+    → Reach
+    (1 + c .before .before .before .before .before .function .given .0 .0)
+    (length (c .before .before .before .before .before .before .before .before .before .before .before .before .before .before .before .before .args .sub .now))
+    (c .before .before .before .before .before .before .before .before .before .before .before .before .before .before .before .before .args .top + c .before .before .before .before .before .function .given .0 .1 .0)
+    (length (c .before .before .before .before .before .before .before .before .before .before .before .before .before .before .before .before .args .work .now))
+reach t c =
+    let start = c .before .before .before .before .before .before .before .before .before .before .before .before .before .before .before .before in
+    let S = start .pre .1 .3 in
+    let function = typed (c .before .before .before .before .before .before .before .before .before .infer .ensures _ _ (first S of-app)) (c .before .before .before .before .before .function .given .1) in
+    let fits = type-fits (first S of-app) _ _ (function .found) in
+    record {
+      within = omega (arith, subject-parts S of-app, function .read);
+      short = omega (arith, S .within, S .short);
+      fits = omega (arith, function .long, fits, room-two (start .pre .1 .4));
+      small = start .good .1 .1 .1 .1 .0 .1;
+    }
+
+-- Function and argument are typed.
+calls : (t : ℕ) (c : application-lts.After-known-told2 (application-claims t) (application-at t) application.Post) (Γ : Context) (f u : Term)
+    → Subject Γ (app f u) (c .before .before .before .before .before .before .before .before .before .before .before .before .before .before .before .before .before .before .before .before .before .before .before .before .before .args .term .now) (c .before .before .before .before .before .before .before .before .before .before .before .before .before .before .before .before .before .before .before .before .before .before .before .before .before .args .sub .now) (c .before .before .before .before .before .before .before .before .before .before .before .before .before .before .before .before .before .before .before .before .before .before .before .before .before .args .context .now) (c .before .before .before .before .before .before .before .before .before .before .before .before .before .before .before .before .before .before .before .before .before .before .before .before .before .args .depth)
+    → Called
+    (c .before .before .before .before .before .before .before .before .before .before .before .before .before .before .before .before .before .before .before .before .before .before .before .before .before .args .limit)
+    Γ
+    (length (c .before .before .before .before .before .before .before .before .before .before .before .before .before .before .before .before .before .before .before .before .before .before .before .before .before .args .term .now) - length (c .before .before .before .before .before .before .before .before .before .before .before .before .before .before .before .before .before .before .before .before .before .before .before .before .before .args .sub .now))
+    f
+    u
+    (c .before .before .before .before .before .before .before .before .before .before .before .before .before .before .before .before .before .before .before .before .before .before .before .before .before .args .context .now)
+    (c .before .before .before .before .before .before .before .before .before .before .before .before .before .before .before .before .before .before .before .before .before .before .before .before .before .args .depth)
+    (c .before .before .before .before .before .before .before .before .before .before .before .before .before .before .before .before .before .before .before .before .before .before .before .before .before .args .work .now)
+    (c .before .before .before .before .before .before .before .before .before .before .before .before .before .before .before .before .before .before .before .before .before .before .before .before .before .args .top)
+    (c .before .before .before .before .before .before .before .before .before .before .before .before .before .before .function .given .0 .0)
+    (c .before .argument .given .0 .0)
+    (c .before .before .before .before .before .before .before .before .before .before .before .before .before .before .function .given .0 .1 .0)
+    (c .before .argument .given .0 .1 .0)
+    (c .before .before .before .before .before .infer2 .last .1 .1 .1 .1 .0)
+    (c .before .before .before .before .before .infer2 .last .1 .1 .0)
+calls t c Γ f u S =
+    let function = typed (c .before .before .before .before .before .before .before .before .before .before .before .before .before .before .before .before .before .before .infer .ensures Γ f (first S of-app)) (c .before .before .before .before .before .before .before .before .before .before .before .before .before .before .function .given .1) in
+    called
+    S
+    _
+    function
+    (ap meaning-of (sym (c .before .before .before .before .before .before .before .before .before .enum-told2 .given .1)) ∙ c .before .before .before .before .before .before .before .before .before .before .before .classify .ensures)
+    (typed (c .before .before .before .before .before .infer2 .ensures Γ u (argument-subject S _ function)) (c .before .argument .given .1))
+
+-- The slice is as long as it was.
+long : (t : ℕ) (c : application-lts.After-known-told2 (application-claims t) (application-at t) application.Post)
+    → length (c .before .before .before .before .before .infer2 .last .1 .1 .1 .1 .0) ≡ length (c .before .before .before .before .before .before .before .before .before .before .before .before .before .before .before .before .before .before .before .before .before .before .before .before .before .args .work .now)
+long t c = c .before .before .before .before .before .infer2 .kept .1 .1 .1 .1 .0 ∙ c .before .before .before .before .before .before .before .before .before .before .before .before .before .before .before .before .before .before .infer .kept .1 .1 .1 .1 .0
+
+sub-place : (t : ℕ) → application-lts.Need-sub-place (application-claims t) (application-at t) application.Post
+sub-place t c = search needs
+
+sub-infer : (t : ℕ) → application-lts.Need-sub-infer (application-claims t) (application-at t) application.Post
+sub-infer t c = subject-some (c .before .before .before .pre .1 .3)
+
+part-infer-start : (t : ℕ) → application-lts.Need-part-infer-start (application-claims t) (application-at t) application.Post
+part-infer-start t c = subject-some (c .before .before .before .pre .1 .3)
+
+part-infer-end : (t : ℕ) → application-lts.Need-part-infer-end (application-claims t) (application-at t) application.Post
+part-infer-end t c = search needs
+
+infer-requires : (t : ℕ) → application-lts.Need-infer-requires (application-claims t) (application-at t) application.Post
+infer-requires t c κs =
+    let start = c .before .before .before .before .before .before in
+    let S = start .pre .1 .3 in (
+      omega (arith, start .pre .0, behind-length 1 (start .args .sub .now), subject-some S),
+      (_, _, first S of-app, roomy-part (start .pre .1 .4) (two-levels of-app .0) refl (omega arith)),
+    )
+
+enum-known-function : (t : ℕ) → application-lts.Need-enum-known-function (application-claims t) (application-at t) application.Post
+enum-known-function t c = search needs
+
+enum-told : (t : ℕ) → application-lts.Need-enum-told (application-claims t) (application-at t) application.Post
+enum-told t c = search needs
+
+same-length : (t : ℕ) → application-lts.Need-same-length (application-claims t) (application-at t) application.Post
+same-length t c = search needs
+
+returns : (t : ℕ) → application-lts.Need-returns (application-claims t) (application-at t) application.Post
+returns t c Γ f u S =
+    passed _ (c .before .before .before .before .infer .ensures Γ f (first S of-app)) (c .enum-told .given .1) (by-function _ Γ _ f u (place-first S))
+
+mul-classify : (t : ℕ) → application-lts.Need-mul-classify (application-claims t) (application-at t) application.Post
+mul-classify t c = search needs
+
+slice-read-classify : (t : ℕ) → application-lts.Need-slice-read-classify (application-claims t) (application-at t) application.Post
+slice-read-classify t c = search needs
+
+classify-requires : (t : ℕ) → application-lts.Need-classify-requires (application-claims t) (application-at t) application.Post
+classify-requires t c = search needs
+
+enum-told-2 : (t : ℕ) → application-lts.Need-enum-told-2 (application-claims t) (application-at t) application.Post
+enum-told-2 t c = search needs
+
+refused-requires : (t : ℕ) → application-lts.Need-refused-requires (application-claims t) (application-at t) application.Post
+refused-requires t c = search needs
+
+same-length-2 : (t : ℕ) → application-lts.Need-same-length-2 (application-claims t) (application-at t) application.Post
+same-length-2 t c = search needs
+
+returns-2 : (t : ℕ) → application-lts.Need-returns-2 (application-claims t) (application-at t) application.Post
+returns-2 t c Γ f u S =
+    let function = typed (c .before .before .before .before .before .before .before .before .before .infer .ensures Γ f (first S of-app)) (c .before .before .before .before .before .function .given .1) in
+    let classify = c .before .before .classify in
+    turned
+    (no-function _ Γ _ f u (function-found S _ function)
+    (other-type S _ function λ x. not-product (classify .result) (c .before .match2 .keys2) (classify .ensures ∙ x)))
+    (c .refused .ensures)
+
+add-from : (t : ℕ) → application-lts.Need-add-from (application-claims t) (application-at t) application.Post
+add-from t c = record { fits = omega (arith, reach t c) }
+
+add-next : (t : ℕ) → application-lts.Need-add-next (application-claims t) (application-at t) application.Post
+add-next t c = record { fits = omega (arith, reach t c) }
+
+mul-infer : (t : ℕ) → application-lts.Need-mul-infer (application-claims t) (application-at t) application.Post
+mul-infer t c = record { fits = omega (arith, reach t c) }
+
+sub-infer-2 : (t : ℕ) → application-lts.Need-sub-infer-2 (application-claims t) (application-at t) application.Post
+sub-infer-2 t c = reach t c .within
+
+part-infer-start-2 : (t : ℕ) → application-lts.Need-part-infer-start-2 (application-claims t) (application-at t) application.Post
+part-infer-start-2 t c = reach t c .within
+
+part-infer-end-2 : (t : ℕ) → application-lts.Need-part-infer-end-2 (application-claims t) (application-at t) application.Post
+part-infer-end-2 t c = search needs
+
+infer-requires-2 : (t : ℕ) → application-lts.Need-infer-requires-2 (application-claims t) (application-at t) application.Post
+infer-requires-2 t c κs =
+    let start = c .before .before .before .before .before .before .before .before .before .before .before .before .before .before .before .before .before .before .before in
+    let S = start .pre .1 .3 in
+    let function = typed (c .before .before .before .before .before .before .before .before .before .before .before .before .infer .ensures _ _ (first S of-app)) (c .before .before .before .before .before .before .before .before .function .given .1) in
+    let fits = type-fits (first S of-app) _ _ (function .found) in (
+      omega (arith, start .pre .0, behind-length (1 + c .before .before .before .before .before .before .before .before .function .given .0 .0) (start .args .sub .now), subject-some S),
+      (
+        _,
+        _,
+        argument-subject S _ function,
+        roomy-part (start .pre .1 .4) (two-levels of-app .1) (c .before .before .before .before .before .before .before .before .before .before .before .before .infer .kept .1 .1 .1 .1 .0) (omega (arith, function .long, fits)),
+      ),
+    )
+
+enum-known-argument : (t : ℕ) → application-lts.Need-enum-known-argument (application-claims t) (application-at t) application.Post
+enum-known-argument t c = search needs
+
+enum-told-3 : (t : ℕ) → application-lts.Need-enum-told-3 (application-claims t) (application-at t) application.Post
+enum-told-3 t c = search needs
+
+same-length-3 : (t : ℕ) → application-lts.Need-same-length-3 (application-claims t) (application-at t) application.Post
+same-length-3 t c = search needs
+
+returns-3 : (t : ℕ) → application-lts.Need-returns-3 (application-claims t) (application-at t) application.Post
+returns-3 t c Γ f u S =
+    let function = typed (c .before .before .before .before .before .before .before .before .before .before .before .before .before .before .before .before .before .infer .ensures Γ f (first S of-app)) (c .before .before .before .before .before .before .before .before .before .before .before .before .before .function .given .1) in
+    passed
+    _
+    (c .before .before .before .before .infer2 .ensures Γ u (argument-subject S _ function))
+    (c .enum-told3 .given .1)
+    (by-argument _ Γ _ f u
+    (function-product S _ function (ap meaning-of (sym (c .before .before .before .before .before .before .before .before .enum-told2 .given .1)) ∙ c .before .before .before .before .before .before .before .before .before .before .classify .ensures))
+    (place-second S of-app _ (ap (λ k. 1 + k) (function .read))))
+
+add-first : (t : ℕ) → application-lts.Need-add-first (application-claims t) (application-at t) application.Post
+add-first t c = record { fits = omega (arith, reach t (c .before .before .before .before .before .before .before .before .before), calls t c _ _ _ (c .before .before .before .before .before .before .before .before .before .before .before .before .before .before .before .before .before .before .before .before .before .before .before .before .before .pre .1 .3) .long) }
+
+mul-span : (t : ℕ) → application-lts.Need-mul-span (application-claims t) (application-at t) application.Post
+mul-span t c = record { fits = omega (arith, reach t (c .before .before .before .before .before .before .before .before .before), calls t c _ _ _ (c .before .before .before .before .before .before .before .before .before .before .before .before .before .before .before .before .before .before .before .before .before .before .before .before .before .pre .1 .3) .long) }
+
+sub-span : (t : ℕ) → application-lts.Need-sub-span (application-claims t) (application-at t) application.Post
+sub-span t c = omega (arith, calls t c _ _ _ (c .before .before .before .before .before .before .before .before .before .before .before .before .before .before .before .before .before .before .before .before .before .before .before .before .before .pre .1 .3) .long)
+
+part-span-start : (t : ℕ) → application-lts.Need-part-span-start (application-claims t) (application-at t) application.Post
+part-span-start t c = omega (arith, calls t (c .before) _ _ _ (c .before .before .before .before .before .before .before .before .before .before .before .before .before .before .before .before .before .before .before .before .before .before .before .before .before .before .pre .1 .3) .long)
+
+part-span-end : (t : ℕ) → application-lts.Need-part-span-end (application-claims t) (application-at t) application.Post
+part-span-end t c = omega (arith, reach t (c .before .before .before .before .before .before .before .before .before .before) .fits, long t (c .before))
+
+span-requires : (t : ℕ) → application-lts.Need-span-requires (application-claims t) (application-at t) application.Post
+span-requires t c = search needs
+
+refused-requires-2 : (t : ℕ) → application-lts.Need-refused-requires-2 (application-claims t) (application-at t) application.Post
+refused-requires-2 t c = search needs
+
+same-length-4 : (t : ℕ) → application-lts.Need-same-length-4 (application-claims t) (application-at t) application.Post
+same-length-4 t c = search needs
+
+returns-4 : (t : ℕ) → application-lts.Need-returns-4 (application-claims t) (application-at t) application.Post
+returns-4 t c Γ f u S =
+    let C = calls t (c .before .before .before .before .before) Γ f u S in
+    turned
+    (wrong _ Γ _ f u (C .function) (C .argument) λ x.
+    c .before .if1 .taken (C .own-long ∙ ap size x ∙ sym (c .before .before .span .ensures .0 ∙ domain-span C)))
+    (c .refused2 .ensures)
+
+same-requires : (t : ℕ) → application-lts.Need-same-requires (application-claims t) (application-at t) application.Post
+same-requires t c κs =
+    let C = calls t (c .before .before .before .before .before) _ _ _ (c .before .before .before .before .before .before .before .before .before .before .before .before .before .before .before .before .before .before .before .before .before .before .before .before .before .before .before .before .before .before .pre .1 .3) in
+    let x = c .before .before .span .ensures .0 ∙ domain-span C in
+    let room = room-two (c .before .before .before .before .before .before .before .before .before .before .before .before .before .before .before .before .before .before .before .before .before .before .before .before .before .before .before .before .before .before .pre .1 .4) in
+    let l = long t (c .before .before .before .before .before) in (
+      omega (arith, C .long, C .fits, x, room, l),
+      omega (arith, C .own-fits, C .fits, c .before .if1 .left, room, l),
+    )
+
+refused-requires-3 : (t : ℕ) → application-lts.Need-refused-requires-3 (application-claims t) (application-at t) application.Post
+refused-requires-3 t c = search needs
+
+same-length-5 : (t : ℕ) → application-lts.Need-same-length-5 (application-claims t) (application-at t) application.Post
+same-length-5 t c = search needs
+
+returns-5 : (t : ℕ) → application-lts.Need-returns-5 (application-claims t) (application-at t) application.Post
+returns-5 t c Γ f u S =
+    let C = calls t (c .before .before .before .before .before .before .before .before) Γ f u S in
+    let same = c .before .before .same in
+    let domain = c .before .before .before .before .before .span .ensures .0 ∙ domain-span C in
+    turned
+    (wrong _ Γ _ f u (C .function) (C .argument) λ x.
+    let y = told-same C domain (same .result) (c .before .before .before .before .if1 .left) (same .ensures) x in
+    let z : _≡_ {A = ℕ} 0 1 = cc (y, not-true (same .result) (c .before .if2 .taken)) in
+    absurd (omega arith))
+    (c .refused3 .ensures)
+
+add-to : (t : ℕ) → application-lts.Need-add-to (application-claims t) (application-at t) application.Post
+add-to t c =
+    let S = c .before .before .before .before .before .before .before .before .before .before .before .before .before .before .before .before .before .before .before .before .before .before .before .before .before .before .before .before .before .before .before .before .pre .1 .3 in
+    let C = calls t (c .before .before .before .before .before .before .before) _ _ _ S in
+    record { fits = omega (arith, subject-parts S of-app, C .read, C .further, S .within, S .short) }
+
+mul-put-in : (t : ℕ) → application-lts.Need-mul-put-in (application-claims t) (application-at t) application.Post
+mul-put-in t c =
+    let S = c .before .before .before .before .before .before .before .before .before .before .before .before .before .before .before .before .before .before .before .before .before .before .before .before .before .before .before .before .before .before .before .before .pre .1 .3 in
+    let C = calls t (c .before .before .before .before .before .before .before) _ _ _ S in
+    record { fits = omega (arith, subject-parts S of-app, C .read, S .within, S .short) }
+
+sub-put-in : (t : ℕ) → application-lts.Need-sub-put-in (application-claims t) (application-at t) application.Post
+sub-put-in t c = search needs
+
+part-put-in-start : (t : ℕ) → application-lts.Need-part-put-in-start (application-claims t) (application-at t) application.Post
+part-put-in-start t c = search needs
+
+part-put-in-end : (t : ℕ) → application-lts.Need-part-put-in-end (application-claims t) (application-at t) application.Post
+part-put-in-end t c =
+    let S = c .before .before .before .before .before .before .before .before .before .before .before .before .before .before .before .before .before .before .before .before .before .before .before .before .before .before .before .before .before .before .before .before .pre .1 .3 in
+    let C = calls t (c .before .before .before .before .before .before .before) _ _ _ S in
+    omega (arith, subject-parts S of-app, C .read, C .further)
+
+add-put-in : (t : ℕ) → application-lts.Need-add-put-in (application-claims t) (application-at t) application.Post
+add-put-in t c =
+    let C = calls t (c .before .before .before .before .before .before .before .before .before) _ _ _ (c .before .before .before .before .before .before .before .before .before .before .before .before .before .before .before .before .before .before .before .before .before .before .before .before .before .before .before .before .before .before .before .before .before .before .pre .1 .3) in
+    record { fits = omega (arith, C .long, c .before .before .before .before .before .before .span .ensures .0 ∙ domain-span C, reach t (c .before .before .before .before .before .before .before .before .before .before .before .before .before .before .before .before .before .before)) }
+
+sub-put-in-2 : (t : ℕ) → application-lts.Need-sub-put-in-2 (application-claims t) (application-at t) application.Post
+sub-put-in-2 t c = omega (arith, calls t (c .before .before .before .before .before .before .before .before .before) _ _ _ (c .before .before .before .before .before .before .before .before .before .before .before .before .before .before .before .before .before .before .before .before .before .before .before .before .before .before .before .before .before .before .before .before .before .before .pre .1 .3) .long)
+
+sub-put-in-3 : (t : ℕ) → application-lts.Need-sub-put-in-3 (application-claims t) (application-at t) application.Post
+sub-put-in-3 t c = search needs
+
+put-in-requires : (t : ℕ) → application-lts.Need-put-in-requires (application-claims t) (application-at t) application.Post
+put-in-requires t c κs =
+    let start = c .before .before .before .before .before .before .before .before .before .before .before .before .before .before .before .before .before .before .before .before .before .before .before .before .before .before .before .before .before .before .before .before .before .before in
+    let S = start .pre .1 .3 in
+    let R = start .pre .1 .4 in
+    let function = typed (c .before .before .before .before .before .before .before .before .before .before .before .before .before .before .before .before .before .before .before .before .before .before .before .before .before .before .before .infer .ensures _ _ (first S of-app)) (c .before .before .before .before .before .before .before .before .before .before .before .before .before .before .before .before .before .before .before .before .before .before .before .function .given .1) in
+    let C = calls t (c .before .before .before .before .before .before .before .before .before) _ _ _ S in
+    let x = c .before .before .before .before .before .before .span .ensures .0 ∙ domain-span C in
+    let room = room-two R in
+    let l = long t (c .before .before .before .before .before .before .before .before .before) in (
+      omega (arith, room, l),
+      omega (arith, C .long, C .fits, x, room, l),
+      codomain-codes C x S (R .allowed),
+      subject-codes
+          (argument-subject S _ function)
+          _
+          (argument-words S _ function (C .further))
+          (eqb-true (start .args .depth) 0),
+    )
+
+enum-told-4 : (t : ℕ) → application-lts.Need-enum-told-4 (application-claims t) (application-at t) application.Post
+enum-told-4 t c = search needs
+
+refused-requires-4 : (t : ℕ) → application-lts.Need-refused-requires-4 (application-claims t) (application-at t) application.Post
+refused-requires-4 t c = search needs
+
+enum-known-end : (t : ℕ) → application-lts.Need-enum-known-end (application-claims t) (application-at t) application.Post
+enum-known-end t c = search needs
+
+-- What is put in and written.
+puts : (t : ℕ) (c : application-lts.After-put-in (application-claims t) (application-at t) application.Post) (Γ : Context) (f u : Term)
+    → (S : Subject Γ (app f u) (c .before .before .before .before .before .before .before .before .before .before .before .before .before .before .before .before .before .before .before .before .before .before .before .before .before .before .before .before .before .before .before .before .before .before .before .args .term .now) (c .before .before .before .before .before .before .before .before .before .before .before .before .before .before .before .before .before .before .before .before .before .before .before .before .before .before .before .before .before .before .before .before .before .before .before .args .sub .now) (c .before .before .before .before .before .before .before .before .before .before .before .before .before .before .before .before .before .before .before .before .before .before .before .before .before .before .before .before .before .before .before .before .before .before .before .args .context .now) (c .before .before .before .before .before .before .before .before .before .before .before .before .before .before .before .before .before .before .before .before .before .before .before .before .before .before .before .before .before .before .before .before .before .before .before .args .depth))
+    → Puts
+    (substitute 0 u (calls t (c .before .before .before .before .before .before .before .before .before .before) Γ f u S .codomain))
+    (c .before .before .before .before .before .before .before .before .before .before .before .before .before .before .before .infer2 .last .1 .1 .1 .1 .0)
+    (c .before .before .before .before .before .before .before .before .before .before .before .before .before .before .before .before .before .before .before .before .before .before .before .before .before .before .before .before .before .before .before .before .before .before .before .args .top)
+    (c .before .before .before .before .before .before .before .before .before .before .before .before .before .before .before .before .before .before .before .before .before .before .before .before .before .before .before .before .before .before .before .before .before .before .before .args .limit)
+    (c .put-in .result)
+    (c .put-in .last .1 .1 .0)
+puts t c Γ f u S =
+    let function = typed (c .before .before .before .before .before .before .before .before .before .before .before .before .before .before .before .before .before .before .before .before .before .before .before .before .before .before .before .before .infer .ensures Γ f (first S of-app)) (c .before .before .before .before .before .before .before .before .before .before .before .before .before .before .before .before .before .before .before .before .before .before .before .before .function .given .1) in
+    let C = calls t (c .before .before .before .before .before .before .before .before .before .before) Γ f u S in
+    c .put-in .ensures
+    (C .codomain)
+    u
+    (codomain-words C (c .before .before .before .before .before .before .before .span .ensures .0 ∙ domain-span C))
+    (argument-words S _ function (C .further))
+
+sub-t59 : (t : ℕ) → application-lts.Need-sub-t59 (application-claims t) (application-at t) application.Post
+sub-t59 t c = omega (arith, put (puts t (c .before .before .before .before .before) _ _ _ (c .before .before .before .before .before .before .before .before .before .before .before .before .before .before .before .before .before .before .before .before .before .before .before .before .before .before .before .before .before .before .before .before .before .before .before .before .before .before .before .before .pre .1 .3)) (c .before .end .given .1) .ends)
+
+same-length-6 : (t : ℕ) → application-lts.Need-same-length-6 (application-claims t) (application-at t) application.Post
+same-length-6 t c = c .before .before .before .before .before .put-in .kept .1 .1 .0 ∙ long t (c .before .before .before .before .before .before .before .before .before .before .before .before .before .before .before)
+
+returns-6 : (t : ℕ) → application-lts.Need-returns-6 (application-claims t) (application-at t) application.Post
+returns-6 t c Γ f u S =
+    let C = calls t (c .before .before .before .before .before .before .before .before .before .before .before .before .before .before .before) Γ f u S in
+    turned
+    (right _ Γ _ f u (C .function) (C .argument) (same-type C (c .before .before .before .before .before .before .before .before .before .before .before .before .span .ensures .0 ∙ domain-span C) (c .before .before .before .before .before .before .before .before .before .same .result) (c .before .before .before .before .before .before .before .before .before .before .before .if1 .left) (c .before .before .before .before .before .before .before .before .before .same .ensures) (not-false _ (c .before .before .before .before .before .before .before .before .if2 .left)))
+    ∙ over _ _ (put-over (puts t (c .before .before .before .before .before) Γ f u S) (c .before .enum-told4 .given .1)))
+    (c .refused4 .ensures)
+
+same-length-7 : (t : ℕ) → application-lts.Need-same-length-7 (application-claims t) (application-at t) application.Post
+same-length-7 t c = c .before .before .before .before .before .put-in .kept .1 .1 .0 ∙ long t (c .before .before .before .before .before .before .before .before .before .before .before .before .before .before .before)
+
+returns-7 : (t : ℕ) → application-lts.Need-returns-7 (application-claims t) (application-at t) application.Post
+returns-7 t c Γ f u S =
+    let C = calls t (c .before .before .before .before .before .before .before .before .before .before .before .before .before .before .before) Γ f u S in
+    let P = put (puts t (c .before .before .before .before .before) Γ f u S) (c .before .end .given .1) in
+    found
+    (right _ Γ _ f u (C .function) (C .argument) (same-type C (c .before .before .before .before .before .before .before .before .before .before .before .before .span .ensures .0 ∙ domain-span C) (c .before .before .before .before .before .before .before .before .before .same .result) (c .before .before .before .before .before .before .before .before .before .before .before .if1 .left) (c .before .before .before .before .before .before .before .before .before .same .ensures) (not-false _ (c .before .before .before .before .before .before .before .before .if2 .left)))
+    ∙ fitting _ _ (P .fits))
+    (written-type
+    _
+    _
+    (unfold size in omega (arith, C .read, C .further))
+    (omega (arith, P .ends))
+    (P .stored)
+    (omega (arith, P .fits, room-two (c .before .before .before .before .before .before .before .before .before .before .before .before .before .before .before .before .before .before .before .before .before .before .before .before .before .before .before .before .before .before .before .before .before .before .before .before .before .before .before .before .pre .1 .4), long t (c .before .before .before .before .before .before .before .before .before .before .before .before .before .before .before)))
+    (C .front)
+    (C .context)
+    (C .wide))
+
+pub application-part : (M : Type 1) (t : ℕ) → application-lts.Closed (application-claims t) (application-at t) application.Post M
+application-part M t =
+    application-lts.spec (application-claims t) (application-at t) application.Post
+    (sub-place t)
+    (sub-infer t)
+    (part-infer-start t)
+    (part-infer-end t)
+    (infer-requires t)
+    (enum-known-function t)
+    (enum-told t)
+    (same-length t)
+    (returns t)
+    (mul-classify t)
+    (slice-read-classify t)
+    (classify-requires t)
+    (enum-told-2 t)
+    (refused-requires t)
+    (same-length-2 t)
+    (returns-2 t)
+    (add-from t)
+    (add-next t)
+    (mul-infer t)
+    (sub-infer-2 t)
+    (part-infer-start-2 t)
+    (part-infer-end-2 t)
+    (infer-requires-2 t)
+    (enum-known-argument t)
+    (enum-told-3 t)
+    (same-length-3 t)
+    (returns-3 t)
+    (add-first t)
+    (mul-span t)
+    (sub-span t)
+    (part-span-start t)
+    (part-span-end t)
+    (span-requires t)
+    (refused-requires-2 t)
+    (same-length-4 t)
+    (returns-4 t)
+    (same-requires t)
+    (refused-requires-3 t)
+    (same-length-5 t)
+    (returns-5 t)
+    (add-to t)
+    (mul-put-in t)
+    (sub-put-in t)
+    (part-put-in-start t)
+    (part-put-in-end t)
+    (add-put-in t)
+    (sub-put-in-2 t)
+    (sub-put-in-3 t)
+    (put-in-requires t)
+    (enum-told-4 t)
+    (refused-requires-4 t)
+    (enum-known-end t)
+    (sub-t59 t)
+    (same-length-6 t)
+    (returns-6 t)
+    (same-length-7 t)
+    (returns-7 t)

@@ -1,0 +1,341 @@
+-- `cast_up` meets its contract. The annotation and the body are subjects one word and one part further on; the annotation, which the
+-- words have, is stepped to behind the body's type and compared with it there.
+mod Known
+use Prim.Native.Nat.{ℕ, _+_, _≤_}
+use mathlib.Core.Path.{refl, _∙_}
+use native.Mathlib.Omega.{arith}
+use borrow.Author.Needs.{needs}
+use borrow.Author.Tests.{eqb-true}
+use lib.Dec.{eqb}
+use Rattle.calculus.specs.Term.{size}
+use Rattle.calculus.specs.Step.{step}
+use Rattle.calculus.proofs.Testing.{fitting, over}
+use Rattle.typing.proofs.Subjects.{of-castup, two-levels, behind-length, subject-some, subject-parts, first, place-first}
+use Rattle.typing.proofs.Rooms.{roomy-part, subject-codes}
+use Rattle.typing.proofs.Passing.{found, passed, turned, typed}
+use Rattle.typing.proofs.Parts.{annotation-found, second-place, beside}
+use Rattle.typing.proofs.Moved.{moved-front, over-limit, rests}
+use Rattle.typing.proofs.Written.{wrote, written-type}
+use Rattle.typing.proofs.Casting.{up-annotation, up-body, up-rests, up-step-over, up-other, up-measured}
+use Rattle.typing.proofs.Compared.{longer}
+use Rattle.typing.proofs.inference.cast_up.Reads as cast-up
+use Rattle.typing.proofs.inference.+abstraction+application+cast_down+cast_up+infer+product+recursion+star_part.Lts-cast_up as cast-up-lts
+use Rattle.typing.proofs.inference.+abstraction+application+cast_down+cast_up+infer+product+recursion+star_part.Proof.Measures.{cast-up-at, cast-up-claims}
+use Rattle.typing.proofs.inference.+abstraction+application+cast_down+cast_up+infer+product+recursion+star_part.Proof.CastUp.Known.{reach, copied, both, room, next-state, compared}
+
+sub-place : (t : ℕ) → cast-up-lts.Need-sub-place (cast-up-claims t) (cast-up-at t) cast-up.Post
+sub-place t c = search needs
+
+sub-star-part : (t : ℕ) → cast-up-lts.Need-sub-star-part (cast-up-claims t) (cast-up-at t) cast-up.Post
+sub-star-part t c = omega (arith, subject-some (c .before .before .before .pre .1 .3))
+
+part-star-part-start : (t : ℕ) → cast-up-lts.Need-part-star-part-start (cast-up-claims t) (cast-up-at t) cast-up.Post
+part-star-part-start t c = omega (arith, subject-some (c .before .before .before .pre .1 .3))
+
+part-star-part-end : (t : ℕ) → cast-up-lts.Need-part-star-part-end (cast-up-claims t) (cast-up-at t) cast-up.Post
+part-star-part-end t c = search needs
+
+star-part-requires : (t : ℕ) → cast-up-lts.Need-star-part-requires (cast-up-claims t) (cast-up-at t) cast-up.Post
+star-part-requires t c κs =
+    let start = c .before .before .before .before .before .before in
+    let P = start .pre .1 in (
+      omega (arith, behind-length 1 (start .args .sub .now), subject-some (P .3)),
+      (
+        P .0,
+        P .1,
+        first (P .3) of-castup,
+        roomy-part (P .4) (two-levels (of-castup {e = P .2}) .0) refl (omega arith),
+      ),
+    )
+
+enum-known-annotation : (t : ℕ) → cast-up-lts.Need-enum-known-annotation (cast-up-claims t) (cast-up-at t) cast-up.Post
+enum-known-annotation t c = search needs
+
+enum-told : (t : ℕ) → cast-up-lts.Need-enum-told (cast-up-claims t) (cast-up-at t) cast-up.Post
+enum-told t c = search needs
+
+same-length : (t : ℕ) → cast-up-lts.Need-same-length (cast-up-claims t) (cast-up-at t) cast-up.Post
+same-length t c = search needs
+
+returns : (t : ℕ) → cast-up-lts.Need-returns (cast-up-claims t) (cast-up-at t) cast-up.Post
+returns t c Γ a e S =
+    let after-star-part = c .before .before .before .before in
+    passed _ (after-star-part .star-part .ensures Γ a (first S of-castup)) (c .enum-told .given .1) (up-annotation _ Γ _ _ a e (place-first S))
+
+add-front : (t : ℕ) → cast-up-lts.Need-add-front (cast-up-claims t) (cast-up-at t) cast-up.Post
+add-front t c = omega (arith, reach t c)
+
+mul-infer : (t : ℕ) → cast-up-lts.Need-mul-infer (cast-up-claims t) (cast-up-at t) cast-up.Post
+mul-infer t c = omega (arith, reach t c)
+
+sub-infer : (t : ℕ) → cast-up-lts.Need-sub-infer (cast-up-claims t) (cast-up-at t) cast-up.Post
+sub-infer t c = omega (arith, reach t c)
+
+part-infer-start : (t : ℕ) → cast-up-lts.Need-part-infer-start (cast-up-claims t) (cast-up-at t) cast-up.Post
+part-infer-start t c = omega (arith, reach t c)
+
+part-infer-end : (t : ℕ) → cast-up-lts.Need-part-infer-end (cast-up-claims t) (cast-up-at t) cast-up.Post
+part-infer-end t c = search needs
+
+infer-requires : (t : ℕ) → cast-up-lts.Need-infer-requires (cast-up-claims t) (cast-up-at t) cast-up.Post
+infer-requires t c κs =
+    let after-annotation = c .before .before .before .before in
+    let after-star-part = after-annotation .before .before .before .before in
+    let start = after-star-part .before .before .before .before .before .before .before in
+    let P = start .pre .1 in
+    let A = typed (after-star-part .star-part .ensures (P .0) (P .1) (first (P .3) of-castup)) (after-annotation .annotation .given .1) in (
+      omega (arith, behind-length (1 + after-annotation .annotation .given .0 .0) (start .args .sub .now), reach t (c .before .before .before)),
+      (
+        P .0,
+        P .2,
+        beside (P .3) _ A of-castup,
+        roomy-part (P .4) (two-levels (of-castup {a = P .1}) .1) (after-star-part .star-part .kept .1 .1 .1 .1 .0) (omega arith),
+      ),
+    )
+
+enum-known-body : (t : ℕ) → cast-up-lts.Need-enum-known-body (cast-up-claims t) (cast-up-at t) cast-up.Post
+enum-known-body t c = search needs
+
+enum-told-2 : (t : ℕ) → cast-up-lts.Need-enum-told-2 (cast-up-claims t) (cast-up-at t) cast-up.Post
+enum-told-2 t c = search needs
+
+same-length-2 : (t : ℕ) → cast-up-lts.Need-same-length-2 (cast-up-claims t) (cast-up-at t) cast-up.Post
+same-length-2 t c = search needs
+
+returns-2 : (t : ℕ) → cast-up-lts.Need-returns-2 (cast-up-claims t) (cast-up-at t) cast-up.Post
+returns-2 t c Γ a e S =
+    let after-infer = c .before .before .before .before in
+    let after-annotation = after-infer .before .before .before .before .before in
+    let after-star-part = after-annotation .before .before .before .before in
+    let A = typed (after-star-part .star-part .ensures Γ a (first S of-castup)) (after-annotation .annotation .given .1) in
+    passed
+    _
+    (after-infer .infer .ensures Γ e (beside S _ A of-castup))
+    (c .enum-told2 .given .1)
+    (up-body _ Γ _ _ a e (annotation-found S _ A) (second-place S _ A (of-castup {e = e})))
+
+add-next : (t : ℕ) → cast-up-lts.Need-add-next (cast-up-claims t) (cast-up-at t) cast-up.Post
+add-next t c =
+    let after-infer = c .before .before .before .before .before in
+    let after-star-part = after-infer .before .before .before .before .before .before .before .before .before in
+    let start = after-star-part .before .before .before .before .before .before .before in
+    omega (arith, room t c, start .good .1 .1 .1 .1 .0 .0, after-star-part .star-part .kept .1 .1 .1 .1 .0, after-infer .infer .kept .1 .1 .1 .1 .0)
+
+sub-step-into : (t : ℕ) → cast-up-lts.Need-sub-step-into (cast-up-claims t) (cast-up-at t) cast-up.Post
+sub-step-into t c = search needs
+
+part-step-into-start : (t : ℕ) → cast-up-lts.Need-part-step-into-start (cast-up-claims t) (cast-up-at t) cast-up.Post
+part-step-into-start t c = search needs
+
+part-step-into-end : (t : ℕ) → cast-up-lts.Need-part-step-into-end (cast-up-claims t) (cast-up-at t) cast-up.Post
+part-step-into-end t c = omega (arith, reach t (c .before .before .before .before .before .before .before .before .before))
+
+step-into-requires : (t : ℕ) → cast-up-lts.Need-step-into-requires (cast-up-claims t) (cast-up-at t) cast-up.Post
+step-into-requires t c κs =
+    let after-known-told = c .before .before .before .before .before .before .before .before .before .before .before in
+    let start = after-known-told .before .before .before .before .before .before .before .before .before .before .before .before in
+    let P = start .pre .1 in
+    let F = first (P .3) of-castup in
+    let r = room t (c .before .before) in
+    (omega arith, subject-codes F (eqb (start .args .depth) 0) (copied t after-known-told (P .0) (P .1) (P .2) (P .3)) (eqb-true (start .args .depth) 0))
+
+refused-requires : (t : ℕ) → cast-up-lts.Need-refused-requires (cast-up-claims t) (cast-up-at t) cast-up.Post
+refused-requires t c κs = search needs
+
+same-length-3 : (t : ℕ) → cast-up-lts.Need-same-length-3 (cast-up-claims t) (cast-up-at t) cast-up.Post
+same-length-3 t c = search needs
+
+returns-3 : (t : ℕ) → cast-up-lts.Need-returns-3 (cast-up-claims t) (cast-up-at t) cast-up.Post
+returns-3 t c Γ a e S =
+    let after-step-into = c .before .before .before .before in
+    let after-known-told2 = after-step-into .before .before .before in
+    let after-known-told = after-known-told2 .before .before .before .before .before .before .before .before .before in
+    let m = after-step-into .step-into .ensures a (copied t after-known-told Γ a e S) in
+    turned (up-rests (both t after-known-told2 Γ a e S) (rests _ _ _ _ _ _ (step a) m (c .before .match3 .keys1))) (c .refused .ensures)
+
+enum-told-3 : (t : ℕ) → cast-up-lts.Need-enum-told-3 (cast-up-claims t) (cast-up-at t) cast-up.Post
+enum-told-3 t c = search needs
+
+refused-requires-2 : (t : ℕ) → cast-up-lts.Need-refused-requires-2 (cast-up-claims t) (cast-up-at t) cast-up.Post
+refused-requires-2 t c κs = search needs
+
+same-length-4 : (t : ℕ) → cast-up-lts.Need-same-length-4 (cast-up-claims t) (cast-up-at t) cast-up.Post
+same-length-4 t c = search needs
+
+returns-4 : (t : ℕ) → cast-up-lts.Need-returns-4 (cast-up-claims t) (cast-up-at t) cast-up.Post
+returns-4 t c Γ a e S =
+    let after-step-into = c .before .before .before .before .before in
+    let after-known-told2 = after-step-into .before .before .before in
+    let after-known-told = after-known-told2 .before .before .before .before .before .before .before .before .before in
+    let m = after-step-into .step-into .ensures a (copied t after-known-told Γ a e S) in
+    let o = over-limit _ _ _ _ _ (step a) m (c .before .enum-told3 .given .1) in
+    turned (up-step-over (both t after-known-told2 Γ a e S) (o .0) (o .1) (o .2)) (c .refused2 .ensures)
+
+enum-known-count : (t : ℕ) → cast-up-lts.Need-enum-known-count (cast-up-claims t) (cast-up-at t) cast-up.Post
+enum-known-count t c = search needs
+
+refused-requires-3 : (t : ℕ) → cast-up-lts.Need-refused-requires-3 (cast-up-claims t) (cast-up-at t) cast-up.Post
+refused-requires-3 t c κs = search needs
+
+same-length-5 : (t : ℕ) → cast-up-lts.Need-same-length-5 (cast-up-claims t) (cast-up-at t) cast-up.Post
+same-length-5 t c = search needs
+
+returns-5 : (t : ℕ) → cast-up-lts.Need-returns-5 (cast-up-claims t) (cast-up-at t) cast-up.Post
+returns-5 t c Γ a e S =
+    let after-known-told2 = c .before .before .before .before .before .before .before .before .before .before in
+    let B = both t after-known-told2 Γ a e S in
+    let m = next-state t (c .before .before) Γ a e S in
+    turned (up-other B (m .state) (m .steps) (m .fits) (longer (m .state) (B .type) (m .long) (B .long) (c .before .if1 .taken))) (c .refused3 .ensures)
+
+same-requires : (t : ℕ) → cast-up-lts.Need-same-requires (cast-up-claims t) (cast-up-at t) cast-up.Post
+same-requires t c κs =
+    let after-step-into = c .before .before .before .before .before .before .before in
+    let after-known-told2 = after-step-into .before .before .before in
+    let r = room t after-known-told2 in
+    let k = after-step-into .step-into .kept .1 .1 .0 in
+    (omega arith, omega arith)
+
+refused-requires-4 : (t : ℕ) → cast-up-lts.Need-refused-requires-4 (cast-up-claims t) (cast-up-at t) cast-up.Post
+refused-requires-4 t c κs = search needs
+
+same-length-6 : (t : ℕ) → cast-up-lts.Need-same-length-6 (cast-up-claims t) (cast-up-at t) cast-up.Post
+same-length-6 t c = search needs
+
+returns-6 : (t : ℕ) → cast-up-lts.Need-returns-6 (cast-up-claims t) (cast-up-at t) cast-up.Post
+returns-6 t c Γ a e S =
+    let after-known-told3 = c .before .before .before .before .before in
+    let after-known-told2 = after-known-told3 .before .before .before .before .before .before .before .before in
+    let B = both t after-known-told2 Γ a e S in
+    let m = next-state t after-known-told3 Γ a e S in
+    turned (up-other B (m .state) (m .steps) (m .fits) (compared t (c .before .before) Γ a e S .0 (c .before .if2 .taken))) (c .refused4 .ensures)
+
+refused-requires-5 : (t : ℕ) → cast-up-lts.Need-refused-requires-5 (cast-up-claims t) (cast-up-at t) cast-up.Post
+refused-requires-5 t c κs = search needs
+
+same-length-7 : (t : ℕ) → cast-up-lts.Need-same-length-7 (cast-up-claims t) (cast-up-at t) cast-up.Post
+same-length-7 t c = search needs
+
+returns-7 : (t : ℕ) → cast-up-lts.Need-returns-7 (cast-up-claims t) (cast-up-at t) cast-up.Post
+returns-7 t c Γ a e S =
+    let after-known-told3 = c .before .before .before .before .before .before in
+    let after-known-told2 = after-known-told3 .before .before .before .before .before .before .before .before in
+    let B = both t after-known-told2 Γ a e S in
+    let m = next-state t after-known-told3 Γ a e S in
+    turned
+    (up-measured B (m .state) (m .steps) (m .fits) (compared t (c .before .before .before) Γ a e S .1 (c .before .before .if2 .left)) ∙ over _ a (omega (arith, B .read)))
+    (c .refused5 .ensures)
+
+sub-copy : (t : ℕ) → cast-up-lts.Need-sub-copy (cast-up-claims t) (cast-up-at t) cast-up.Post
+sub-copy t c = search needs
+
+part-copy-start : (t : ℕ) → cast-up-lts.Need-part-copy-start (cast-up-claims t) (cast-up-at t) cast-up.Post
+part-copy-start t c = search needs
+
+part-copy-end : (t : ℕ) → cast-up-lts.Need-part-copy-end (cast-up-claims t) (cast-up-at t) cast-up.Post
+part-copy-end t c = omega (arith, reach t (c .before .before .before .before .before .before .before .before .before .before .before .before .before .before .before .before .before .before .before .before .before .before))
+
+copy-requires : (t : ℕ) → cast-up-lts.Need-copy-requires (cast-up-claims t) (cast-up-at t) cast-up.Post
+copy-requires t c κs =
+    let after-step-into = c .before .before .before .before .before .before .before .before .before .before .before .before in
+    let after-known-told2 = after-step-into .before .before .before in
+    let r = room t after-known-told2 in
+    let k = after-step-into .step-into .kept .1 .1 .0 in
+    omega arith
+
+add-t19 : (t : ℕ) → cast-up-lts.Need-add-t19 (cast-up-claims t) (cast-up-at t) cast-up.Post
+add-t19 t c =
+    let after-known-told2 = c .before .before .before .before .before .before .before .before .before .before .before .before .before .before .before .before .before .before in
+    let after-known-told = after-known-told2 .before .before .before .before .before .before .before .before .before in
+    let start = after-known-told .before .before .before .before .before .before .before .before .before .before .before .before in
+    let P = start .pre .1 in
+    let B = both t after-known-told2 (P .0) (P .1) (P .2) (P .3) in
+    omega (arith, B .read, B .further, subject-parts (P .3) (of-castup {a = P .1} {e = P .2}), reach t after-known-told)
+
+same-length-8 : (t : ℕ) → cast-up-lts.Need-same-length-8 (cast-up-claims t) (cast-up-at t) cast-up.Post
+same-length-8 t c =
+    let after-step-into = c .before .before .before .before .before .before .before .before .before .before .before .before .before .before .before in
+    let after-infer = after-step-into .before .before .before .before .before .before .before .before in
+    let after-star-part = after-infer .before .before .before .before .before .before .before .before .before in
+    c .before .before .copy .kept .1 .0 ∙ after-step-into .step-into .kept .1 .1 .0 ∙ after-infer .infer .kept .1 .1 .1 .1 .0 ∙ after-star-part .star-part .kept .1 .1 .1 .1 .0
+
+returns-8 : (t : ℕ) → cast-up-lts.Need-returns-8 (cast-up-claims t) (cast-up-at t) cast-up.Post
+unfolding size
+returns-8 t c Γ a e S =
+    let else3 = c .before .before .before .before .before in
+    let else2 = else3 .before in
+    let after-same = else2 .before in
+    let after-known-told3 = after-same .before .before .before in
+    let after-step-into = after-known-told3 .before .before .before .before .before in
+    let after-known-told2 = after-step-into .before .before .before in
+    let after-known-told = after-known-told2 .before .before .before .before .before .before .before .before .before in
+    let start = after-known-told .before .before .before .before .before .before .before .before .before .before .before .before in
+    let B = both t after-known-told2 Γ a e S in
+    let m = next-state t after-known-told3 Γ a e S in
+    let r = room t after-known-told2 in
+    let k = after-step-into .step-into .kept .1 .1 .0 in
+    let fits : size a ≤ start .args .limit = omega (arith, B .read, else3 .if3 .left) in
+    found
+    (up-measured B (m .state) (m .steps) (m .fits) (compared t after-same Γ a e S .1 (else2 .if2 .left)) ∙ fitting _ a fits)
+    (written-type
+    (after-step-into .step-into .last .1 .1 .0)
+    a
+    (omega (arith, B .read, B .further))
+    (B .read)
+    (wrote a (c .before .before .copy .ensures) (copied t after-known-told Γ a e S) (omega arith))
+    (omega arith)
+    (moved-front (start .args .top) m (omega arith) ∙ B .front)
+    (B .context)
+    (B .wide))
+
+pub cast-up-part : (M : Type 1) (t : ℕ) → cast-up-lts.Closed (cast-up-claims t) (cast-up-at t) cast-up.Post M
+cast-up-part M t =
+    cast-up-lts.spec (cast-up-claims t) (cast-up-at t) cast-up.Post
+    (sub-place t)
+    (sub-star-part t)
+    (part-star-part-start t)
+    (part-star-part-end t)
+    (star-part-requires t)
+    (enum-known-annotation t)
+    (enum-told t)
+    (same-length t)
+    (returns t)
+    (add-front t)
+    (mul-infer t)
+    (sub-infer t)
+    (part-infer-start t)
+    (part-infer-end t)
+    (infer-requires t)
+    (enum-known-body t)
+    (enum-told-2 t)
+    (same-length-2 t)
+    (returns-2 t)
+    (add-next t)
+    (sub-step-into t)
+    (part-step-into-start t)
+    (part-step-into-end t)
+    (step-into-requires t)
+    (refused-requires t)
+    (same-length-3 t)
+    (returns-3 t)
+    (enum-told-3 t)
+    (refused-requires-2 t)
+    (same-length-4 t)
+    (returns-4 t)
+    (enum-known-count t)
+    (refused-requires-3 t)
+    (same-length-5 t)
+    (returns-5 t)
+    (same-requires t)
+    (refused-requires-4 t)
+    (same-length-6 t)
+    (returns-6 t)
+    (refused-requires-5 t)
+    (same-length-7 t)
+    (returns-7 t)
+    (sub-copy t)
+    (part-copy-start t)
+    (part-copy-end t)
+    (copy-requires t)
+    (add-t19 t)
+    (same-length-8 t)
+    (returns-8 t)

@@ -1,0 +1,304 @@
+-- `recursion` meets its contract. The annotation is a subject one word further on, and the body one part further on under it; the
+-- annotation, which the words have, is raised to behind the body's type and compared with it there.
+mod Known
+use Prim.Native.Nat.{ℕ, _+_}
+use mathlib.Core.List.{_∷_}
+use mathlib.Core.Path.{refl, sym, ap, _∙_}
+use native.Mathlib.Omega.{arith}
+use borrow.Author.Needs.{needs}
+use borrow.Author.Tests.{eqb-true}
+use lib.Dec.{eqb}
+use lib.ListN.{take}
+use Rattle.calculus.specs.Term.{size, raise}
+use Rattle.calculus.specs.Words.{words}
+use Rattle.reduction.proofs.Stores.{take-sets}
+use Rattle.typing.proofs.Subjects.{of-mu, two-levels, behind-length, subject-some, subject-parts, first, place-first}
+use Rattle.typing.proofs.Rooms.{roomy-part, subject-shallow, subject-codes}
+use Rattle.typing.proofs.Passing.{found, passed, turned, typed}
+use Rattle.typing.proofs.Parts.{annotation-found, second-place, below}
+use Rattle.typing.proofs.Coded.{codes-whole, codes-short, codes-plain}
+use Rattle.typing.proofs.Raising.{raise-size}
+use Rattle.typing.proofs.Written.{wrote, written-type}
+use Rattle.typing.proofs.Compared.{longer}
+use Rattle.typing.proofs.Binding.{mu-annotation, mu-body, mu-other, mu-typed}
+use Rattle.typing.proofs.inference.recursion.Reads as recursion
+use Rattle.typing.proofs.inference.+abstraction+application+cast_down+cast_up+infer+product+recursion+star_part.Lts-recursion as recursion-lts
+use Rattle.typing.proofs.inference.+abstraction+application+cast_down+cast_up+infer+product+recursion+star_part.Proof.Measures.{recursion-at, recursion-claims}
+use Rattle.typing.proofs.inference.+abstraction+application+cast_down+cast_up+infer+product+recursion+star_part.Proof.Recursion.Known.{reach, copied, both, room, behind-type, compared}
+
+sub-place : (t : ℕ) → recursion-lts.Need-sub-place (recursion-claims t) (recursion-at t) recursion.Post
+sub-place t c = search needs
+
+sub-star-part : (t : ℕ) → recursion-lts.Need-sub-star-part (recursion-claims t) (recursion-at t) recursion.Post
+sub-star-part t c = omega (arith, subject-some (c .before .before .before .pre .1 .3))
+
+part-star-part-start : (t : ℕ) → recursion-lts.Need-part-star-part-start (recursion-claims t) (recursion-at t) recursion.Post
+part-star-part-start t c = omega (arith, subject-some (c .before .before .before .pre .1 .3))
+
+part-star-part-end : (t : ℕ) → recursion-lts.Need-part-star-part-end (recursion-claims t) (recursion-at t) recursion.Post
+part-star-part-end t c = search needs
+
+star-part-requires : (t : ℕ) → recursion-lts.Need-star-part-requires (recursion-claims t) (recursion-at t) recursion.Post
+star-part-requires t c κs =
+    let start = c .before .before .before .before .before .before in
+    let P = start .pre .1 in (
+      omega (arith, behind-length 1 (start .args .sub .now), subject-some (P .3)),
+      (
+        P .0,
+        P .1,
+        first (P .3) of-mu,
+        roomy-part (P .4) (two-levels (of-mu {e = P .2}) .0) refl (omega arith),
+      ),
+    )
+
+enum-known-annotation : (t : ℕ) → recursion-lts.Need-enum-known-annotation (recursion-claims t) (recursion-at t) recursion.Post
+enum-known-annotation t c = search needs
+
+enum-told : (t : ℕ) → recursion-lts.Need-enum-told (recursion-claims t) (recursion-at t) recursion.Post
+enum-told t c = search needs
+
+same-length : (t : ℕ) → recursion-lts.Need-same-length (recursion-claims t) (recursion-at t) recursion.Post
+same-length t c = search needs
+
+returns : (t : ℕ) → recursion-lts.Need-returns (recursion-claims t) (recursion-at t) recursion.Post
+returns t c Γ a e S =
+    let after-star-part = c .before .before .before .before in
+    passed _ (after-star-part .star-part .ensures Γ a (first S of-mu)) (c .enum-told .given .1) (mu-annotation _ Γ _ _ a e (place-first S))
+
+add-narrow : (t : ℕ) → recursion-lts.Need-add-narrow (recursion-claims t) (recursion-at t) recursion.Post
+add-narrow t c = search needs
+
+narrow-requires : (t : ℕ) → recursion-lts.Need-narrow-requires (recursion-claims t) (recursion-at t) recursion.Post
+narrow-requires t c κs =
+    let start = c .before .before .before .before .before .before .before .before .before .before .before .before in
+    omega (arith, subject-some (start .pre .1 .3), start .pre .1 .3 .within, start .pre .1 .3 .short)
+
+mul-context : (t : ℕ) → recursion-lts.Need-mul-context (recursion-claims t) (recursion-at t) recursion.Post
+mul-context t c = search needs
+
+element-write-context : (t : ℕ) → recursion-lts.Need-element-write-context (recursion-claims t) (recursion-at t) recursion.Post
+element-write-context t c = omega (arith, subject-shallow (c .before .before .before .before .before .before .before .before .before .before .before .before .before .pre .1 .3))
+
+add-front : (t : ℕ) → recursion-lts.Need-add-front (recursion-claims t) (recursion-at t) recursion.Post
+add-front t c = omega (arith, reach t (c .before))
+
+mul-infer : (t : ℕ) → recursion-lts.Need-mul-infer (recursion-claims t) (recursion-at t) recursion.Post
+mul-infer t c = omega (arith, reach t (c .before))
+
+sub-infer : (t : ℕ) → recursion-lts.Need-sub-infer (recursion-claims t) (recursion-at t) recursion.Post
+sub-infer t c = omega (arith, reach t (c .before))
+
+part-infer-start : (t : ℕ) → recursion-lts.Need-part-infer-start (recursion-claims t) (recursion-at t) recursion.Post
+part-infer-start t c = omega (arith, reach t (c .before))
+
+part-infer-end : (t : ℕ) → recursion-lts.Need-part-infer-end (recursion-claims t) (recursion-at t) recursion.Post
+part-infer-end t c = search needs
+
+add-infer : (t : ℕ) → recursion-lts.Need-add-infer (recursion-claims t) (recursion-at t) recursion.Post
+add-infer t c = search needs
+
+infer-requires : (t : ℕ) → recursion-lts.Need-infer-requires (recursion-claims t) (recursion-at t) recursion.Post
+infer-requires t c κs =
+    let after-known-told = c .before .before .before .before in
+    let after-annotation = after-known-told .before in
+    let after-star-part = after-annotation .before .before .before .before in
+    let start = after-star-part .before .before .before .before .before .before .before in
+    let P = start .pre .1 in
+    let A = typed (after-star-part .star-part .ensures (P .0) (P .1) (first (P .3) of-mu)) (after-annotation .annotation .given .1) in (
+      omega (arith, behind-length (1 + after-annotation .annotation .given .0 .0) (start .args .sub .now), reach t after-known-told),
+      (
+        P .1 ∷ P .0,
+        P .2,
+        below (P .3) _ A (c .before .before .before .narrow .result) of-mu (c .before .before .before .narrow .ensures),
+        roomy-part (P .4) (two-levels (of-mu {a = P .1}) .1) (after-star-part .star-part .kept .1 .1 .1 .1 .0) (omega arith),
+      ),
+    )
+
+enum-known-body : (t : ℕ) → recursion-lts.Need-enum-known-body (recursion-claims t) (recursion-at t) recursion.Post
+enum-known-body t c = search needs
+
+enum-told-2 : (t : ℕ) → recursion-lts.Need-enum-told-2 (recursion-claims t) (recursion-at t) recursion.Post
+enum-told-2 t c = search needs
+
+same-length-2 : (t : ℕ) → recursion-lts.Need-same-length-2 (recursion-claims t) (recursion-at t) recursion.Post
+same-length-2 t c = search needs
+
+returns-2 : (t : ℕ) → recursion-lts.Need-returns-2 (recursion-claims t) (recursion-at t) recursion.Post
+returns-2 t c Γ a e S =
+    let after-infer = c .before .before .before .before in
+    let after-narrow = after-infer .before .before .before .before in
+    let after-annotation = after-narrow .before .before in
+    let after-star-part = after-annotation .before .before .before .before in
+    let A = typed (after-star-part .star-part .ensures Γ a (first S of-mu)) (after-annotation .annotation .given .1) in
+    passed
+    _
+    (after-infer .infer .ensures (a ∷ Γ) e (below S _ A (after-narrow .narrow .result) of-mu (after-narrow .narrow .ensures)))
+    (c .enum-told2 .given .1)
+    (mu-body _ Γ _ _ a e (annotation-found S _ A) (second-place S _ A (of-mu {e = e})))
+
+refused-requires : (t : ℕ) → recursion-lts.Need-refused-requires (recursion-claims t) (recursion-at t) recursion.Post
+refused-requires t c κs = search needs
+
+same-length-3 : (t : ℕ) → recursion-lts.Need-same-length-3 (recursion-claims t) (recursion-at t) recursion.Post
+same-length-3 t c = search needs
+
+returns-3 : (t : ℕ) → recursion-lts.Need-returns-3 (recursion-claims t) (recursion-at t) recursion.Post
+returns-3 t c Γ a e S =
+    let B = both t (c .before .before) Γ a e S in
+    turned (mu-other B (longer (B .type) (raise 1 0 a) (B .long) (B .read ∙ sym (raise-size 1 0 a)) (c .before .if1 .taken))) (c .refused .ensures)
+
+add-next : (t : ℕ) → recursion-lts.Need-add-next (recursion-claims t) (recursion-at t) recursion.Post
+add-next t c =
+    let after-infer = c .before .before .before .before .before .before in
+    let after-star-part = after-infer .before .before .before .before .before .before .before .before .before .before in
+    let start = after-star-part .before .before .before .before .before .before .before in
+    omega (arith, room t (c .before), start .good .1 .1 .1 .1 .0 .0, after-star-part .star-part .kept .1 .1 .1 .1 .0, after-infer .infer .kept .1 .1 .1 .1 .0)
+
+sub-raise : (t : ℕ) → recursion-lts.Need-sub-raise (recursion-claims t) (recursion-at t) recursion.Post
+sub-raise t c = search needs
+
+part-raise-start : (t : ℕ) → recursion-lts.Need-part-raise-start (recursion-claims t) (recursion-at t) recursion.Post
+part-raise-start t c = search needs
+
+part-raise-end : (t : ℕ) → recursion-lts.Need-part-raise-end (recursion-claims t) (recursion-at t) recursion.Post
+part-raise-end t c = omega (arith, reach t (c .before .before .before .before .before .before .before .before .before .before .before))
+
+raise-requires : (t : ℕ) → recursion-lts.Need-raise-requires (recursion-claims t) (recursion-at t) recursion.Post
+raise-requires t c κs =
+    let after-known-told = c .before .before .before .before .before .before .before .before .before .before .before .before .before in
+    let start = after-known-told .before .before .before .before .before .before .before .before .before .before .before .before in
+    let P = start .pre .1 in
+    let own = copied t after-known-told (P .0) (P .1) (P .2) (P .3) in
+    let K = subject-codes (first (P .3) of-mu) (eqb (start .args .depth) 0) own (eqb-true (start .args .depth) 0) in
+    let r = room t (c .before .before .before) in
+    (omega arith, codes-whole K, omega (arith, codes-short K), codes-plain K, omega arith)
+
+same-requires : (t : ℕ) → recursion-lts.Need-same-requires (recursion-claims t) (recursion-at t) recursion.Post
+same-requires t c κs =
+    let after-known-told2 = c .before .before .before .before .before .before .before in
+    let r = room t after-known-told2 in
+    let k = c .before .before .before .raise .kept .1 .1 .0 in
+    (omega arith, omega arith)
+
+refused-requires-2 : (t : ℕ) → recursion-lts.Need-refused-requires-2 (recursion-claims t) (recursion-at t) recursion.Post
+refused-requires-2 t c κs = search needs
+
+same-length-4 : (t : ℕ) → recursion-lts.Need-same-length-4 (recursion-claims t) (recursion-at t) recursion.Post
+same-length-4 t c = search needs
+
+returns-4 : (t : ℕ) → recursion-lts.Need-returns-4 (recursion-claims t) (recursion-at t) recursion.Post
+returns-4 t c Γ a e S =
+    let after-known-told2 = c .before .before .before .before .before .before .before .before .before .before in
+    let B = both t after-known-told2 Γ a e S in
+    turned (mu-other B (λ x. compared t (c .before .before) Γ a e S .0 (c .before .if2 .taken) (sym x))) (c .refused2 .ensures)
+
+sub-copy : (t : ℕ) → recursion-lts.Need-sub-copy (recursion-claims t) (recursion-at t) recursion.Post
+sub-copy t c = search needs
+
+part-copy-start : (t : ℕ) → recursion-lts.Need-part-copy-start (recursion-claims t) (recursion-at t) recursion.Post
+part-copy-start t c = search needs
+
+part-copy-end : (t : ℕ) → recursion-lts.Need-part-copy-end (recursion-claims t) (recursion-at t) recursion.Post
+part-copy-end t c = omega (arith, reach t (c .before .before .before .before .before .before .before .before .before .before .before .before .before .before .before .before .before .before .before))
+
+copy-requires : (t : ℕ) → recursion-lts.Need-copy-requires (recursion-claims t) (recursion-at t) recursion.Post
+copy-requires t c κs =
+    let after-raise = c .before .before .before .before .before .before .before in
+    let after-known-told2 = after-raise .before .before .before .before in
+    let r = room t after-known-told2 in
+    let k = after-raise .raise .kept .1 .1 .0 in
+    omega arith
+
+add-t31 : (t : ℕ) → recursion-lts.Need-add-t31 (recursion-claims t) (recursion-at t) recursion.Post
+add-t31 t c =
+    let after-known-told2 = c .before .before .before .before .before .before .before .before .before .before .before .before .before .before in
+    let after-known-told = after-known-told2 .before .before .before .before .before .before .before .before .before .before in
+    let start = after-known-told .before .before .before .before .before .before .before .before .before .before .before .before in
+    let P = start .pre .1 in
+    let B = both t after-known-told2 (P .0) (P .1) (P .2) (P .3) in
+    omega (arith, B .read, B .further, subject-parts (P .3) (of-mu {a = P .1} {e = P .2}), reach t after-known-told)
+
+same-length-5 : (t : ℕ) → recursion-lts.Need-same-length-5 (recursion-claims t) (recursion-at t) recursion.Post
+same-length-5 t c =
+    let after-raise = c .before .before .before .before .before .before .before .before .before .before in
+    let after-infer = after-raise .before .before .before .before .before .before .before .before .before in
+    let after-star-part = after-infer .before .before .before .before .before .before .before .before .before .before in
+    c .before .before .copy .kept .1 .0 ∙ after-raise .raise .kept .1 .1 .0 ∙ after-infer .infer .kept .1 .1 .1 .1 .0 ∙ after-star-part .star-part .kept .1 .1 .1 .1 .0
+
+returns-5 : (t : ℕ) → recursion-lts.Need-returns-5 (recursion-claims t) (recursion-at t) recursion.Post
+unfolding size
+returns-5 t c Γ a e S =
+    let else2 = c .before .before .before .before .before in
+    let after-same = else2 .before in
+    let after-raise = after-same .before .before .before .before in
+    let else1 = after-raise .before .before .before in
+    let after-known-told2 = else1 .before in
+    let after-body = after-known-told2 .before in
+    let after-infer = after-body .before .before .before .before in
+    let after-known-told = after-infer .before .before .before .before .before in
+    let start = after-known-told .before .before .before .before .before .before .before .before .before .before .before .before in
+    let B = both t after-known-told2 Γ a e S in
+    let r = room t after-known-told2 in
+    let long = else1 .if1 .left in
+    let k = after-raise .raise .kept .1 .1 .0 in
+    found
+    (mu-typed B (sym (compared t after-same Γ a e S .1 (else2 .if2 .left))) (omega (arith, B .read)))
+    (written-type
+    (after-raise .raise .last .1 .1 .0)
+    a
+    (omega (arith, B .read, B .further))
+    (B .read)
+    (wrote a (c .before .before .copy .ensures) (copied t after-known-told Γ a e S) (omega (arith, B .read)))
+    (omega (arith, B .read))
+    (ap (take (start .args .top)) (behind-type t after-raise Γ a e S)
+    ∙ take-sets (start .args .top) (after-infer .infer .last .1 .1 .1 .1 .0) (start .args .top + after-body .body .given .0 .1 .0) (words (raise 1 0 a)) (omega arith)
+    ∙ B .front)
+    (B .context)
+    (B .wide))
+
+pub recursion-part : (M : Type 1) (t : ℕ) → recursion-lts.Closed (recursion-claims t) (recursion-at t) recursion.Post M
+recursion-part M t =
+    recursion-lts.spec (recursion-claims t) (recursion-at t) recursion.Post
+    (sub-place t)
+    (sub-star-part t)
+    (part-star-part-start t)
+    (part-star-part-end t)
+    (star-part-requires t)
+    (enum-known-annotation t)
+    (enum-told t)
+    (same-length t)
+    (returns t)
+    (add-narrow t)
+    (narrow-requires t)
+    (mul-context t)
+    (element-write-context t)
+    (add-front t)
+    (mul-infer t)
+    (sub-infer t)
+    (part-infer-start t)
+    (part-infer-end t)
+    (add-infer t)
+    (infer-requires t)
+    (enum-known-body t)
+    (enum-told-2 t)
+    (same-length-2 t)
+    (returns-2 t)
+    (refused-requires t)
+    (same-length-3 t)
+    (returns-3 t)
+    (add-next t)
+    (sub-raise t)
+    (part-raise-start t)
+    (part-raise-end t)
+    (raise-requires t)
+    (same-requires t)
+    (refused-requires-2 t)
+    (same-length-4 t)
+    (returns-4 t)
+    (sub-copy t)
+    (part-copy-start t)
+    (part-copy-end t)
+    (copy-requires t)
+    (add-t31 t)
+    (same-length-5 t)
+    (returns-5 t)

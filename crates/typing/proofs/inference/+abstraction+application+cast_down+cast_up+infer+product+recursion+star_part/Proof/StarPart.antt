@@ -1,0 +1,137 @@
+-- `star_part` meets its contract: it passes on what `infer` says, but for a type whose first word is not that of star.
+use Prim.Native.Nat.{ℕ}
+use mathlib.Core.List.{List}
+use mathlib.Core.Logic.{_≢_}
+use mathlib.Core.Path.{_≡_, refl, sym, ap, subst, _∙_}
+use native.Mathlib.Omega.{arith}
+use lib.ListN.{getD}
+use borrow.Author.Needs.{needs}
+use Rattle.calculus.specs.Term.{Term, star, size}
+use Rattle.calculus.specs.Answer as reason
+use Rattle.calculus.specs.Answer.{ok, refused, _>>=_, _>>_, require}
+use Rattle.calculus.specs.Words.{words}
+use Rattle.calculus.specs.Reading.{meaning, a-star}
+use Rattle.calculus.specs.Rules.{Context}
+use Rattle.calculus.specs.Infer.{infer}
+use Rattle.calculus.proofs.Testing.{equal, unequal}
+use Rattle.term.specs.Word.{meaning-of}
+use Rattle.typing.specs.declared.inference.Inferred.{Inferred}
+use Rattle.typing.specs.declared.inference.Inferred.the-variants as inferred
+use Rattle.typing.specs.Inference.{Subject, Infers, star-typed}
+use Rattle.typing.proofs.Passing.{Part, lying, passed, typed, turned, found}
+use Rattle.typing.proofs.Rooms.{deeper-scoped}
+use Rattle.typing.proofs.Types.{type-scoped}
+use Rattle.typing.proofs.Heads.{Headed, not-star, lying-star, lying-headed}
+use Rattle.typing.proofs.inference.star_part.Reads as star-part
+use Rattle.typing.proofs.inference.+abstraction+application+cast_down+cast_up+infer+product+recursion+star_part.Lts-star_part as star-part-lts
+use Rattle.typing.proofs.inference.+abstraction+application+cast_down+cast_up+infer+product+recursion+star_part.Proof.Measures.{star-part-at, star-part-claims}
+
+-- A type whose first word is that of star.
+starred : (L p : ℕ) {Γ : Context} {e : Term} {term sub places : List ℕ} {depth : ℕ} {work : List ℕ} {top n m : ℕ} {r : Inferred} {after places′ : List ℕ}
+    → Subject Γ e term sub places depth
+    → Part (infer L Γ p e) e places depth work top n m after places′
+    → r ≡ inferred.Typed n m
+    → a-star ≡ meaning (getD after top 0)
+    → Infers (star-typed L Γ p e) e places depth work top r after places′
+unfolding star-typed _>>=_ _>>_ require Headed
+starred L p {top} {m} {after} S part q w =
+    found
+    (rw (part .found, x, equal star) refl)
+    (record {
+      answer = q ∙ cc (part .read, part .long, x);
+      lies = lying part x;
+      front = part .front;
+      context = part .context;
+      wide = part .wide;
+    })
+  where
+    x : part .type ≡ star
+    x =
+        subst
+        (λ k. Headed k (part .type))
+        (sym w)
+        (lying-headed (part .type) m top after (part .lies) (part .long) (deeper-scoped S (part .type) (type-scoped S L p (part .found))))
+
+-- A type whose first word is not that of star.
+unstarred : (L : ℕ) (Γ : Context) (p : ℕ) {e : Term} {places : List ℕ} {depth : ℕ} {work : List ℕ} {top n m : ℕ} {after places′ : List ℕ}
+    → Part (infer L Γ p e) e places depth work top n m after places′
+    → meaning (getD after top 0) ≢ a-star
+    → star-typed L Γ p e ≡ refused reason.not-star p
+unfolding star-typed _>>=_ _>>_ require
+unstarred L Γ p {top} {m} {after} part n =
+    rw (part .found, unequal λ x. n (lying-star m top after (part .lies ∙ ap words x) (part .long ∙ ap size x))) refl
+
+infer-requires : (t : ℕ) → star-part-lts.Need-infer-requires (star-part-claims t) (star-part-at t) star-part.Post
+infer-requires t c κs =
+    let start = c .before .before .before .before .before in
+    (omega (arith, start .pre .0), start .pre .1)
+
+enum-told : (t : ℕ) → star-part-lts.Need-enum-told (star-part-claims t) (star-part-at t) star-part.Post
+enum-told t c = search needs
+
+enum-told-2 : (t : ℕ) → star-part-lts.Need-enum-told-2 (star-part-claims t) (star-part-at t) star-part.Post
+enum-told-2 t c = search needs
+
+same-length : (t : ℕ) → star-part-lts.Need-same-length (star-part-claims t) (star-part-at t) star-part.Post
+same-length t c = search needs
+
+returns : (t : ℕ) → star-part-lts.Need-returns (star-part-claims t) (star-part-at t) star-part.Post
+unfolding star-typed
+returns t c Γ e S =
+    passed _ (c .before .before .before .before .infer .ensures Γ e S) (c .enum-told2 .given .1) refl
+
+mul-classify : (t : ℕ) → star-part-lts.Need-mul-classify (star-part-claims t) (star-part-at t) star-part.Post
+mul-classify t c = search needs
+
+slice-read-classify : (t : ℕ) → star-part-lts.Need-slice-read-classify (star-part-claims t) (star-part-at t) star-part.Post
+slice-read-classify t c = search needs
+
+classify-requires : (t : ℕ) → star-part-lts.Need-classify-requires (star-part-claims t) (star-part-at t) star-part.Post
+classify-requires t c = search needs
+
+enum-told-3 : (t : ℕ) → star-part-lts.Need-enum-told-3 (star-part-claims t) (star-part-at t) star-part.Post
+enum-told-3 t c = search needs
+
+sub-refused : (t : ℕ) → star-part-lts.Need-sub-refused (star-part-claims t) (star-part-at t) star-part.Post
+sub-refused t c = search needs
+
+refused-requires : (t : ℕ) → star-part-lts.Need-refused-requires (star-part-claims t) (star-part-at t) star-part.Post
+refused-requires t c = search needs
+
+same-length-2 : (t : ℕ) → star-part-lts.Need-same-length-2 (star-part-claims t) (star-part-at t) star-part.Post
+same-length-2 t c = search needs
+
+returns-2 : (t : ℕ) → star-part-lts.Need-returns-2 (star-part-claims t) (star-part-at t) star-part.Post
+returns-2 t c Γ e S =
+    let classify = c .before .before .classify in
+    turned
+    (unstarred _ Γ _ (typed (c .before .before .before .before .before .before .before .before .infer .ensures Γ e S) (c .before .before .before .before .enum-told .given .1)) λ x.
+    not-star (classify .result) (c .before .match2 .keys2) (classify .ensures ∙ x))
+    (c .refused .ensures)
+
+same-length-3 : (t : ℕ) → star-part-lts.Need-same-length-3 (star-part-claims t) (star-part-at t) star-part.Post
+same-length-3 t c = search needs
+
+returns-3 : (t : ℕ) → star-part-lts.Need-returns-3 (star-part-claims t) (star-part-at t) star-part.Post
+returns-3 t c Γ e S =
+    let q = c .before .before .before .before .enum-told .given .1 in
+    starred _ _ S (typed (c .before .before .before .before .before .before .before .before .infer .ensures Γ e S) q) q (ap meaning-of (sym (c .enum-told3 .given .1)) ∙ c .before .before .classify .ensures)
+
+pub star-part-part : (M : Type 1) (t : ℕ) → star-part-lts.Closed (star-part-claims t) (star-part-at t) star-part.Post M
+star-part-part M t =
+    star-part-lts.spec (star-part-claims t) (star-part-at t) star-part.Post
+    (infer-requires t)
+    (enum-told t)
+    (enum-told-2 t)
+    (same-length t)
+    (returns t)
+    (mul-classify t)
+    (slice-read-classify t)
+    (classify-requires t)
+    (enum-told-3 t)
+    (sub-refused t)
+    (refused-requires t)
+    (same-length-2 t)
+    (returns-2 t)
+    (same-length-3 t)
+    (returns-3 t)

@@ -1,0 +1,4 @@
+-- What the contracts of this crate cite.
+pub mod Outcomes
+pub mod Moving
+pub mod Inference
