@@ -1,0 +1,149 @@
+// A request line, read byte by byte: fields of decimal digits parted by spaces, tabs or carriage returns. Words beyond the 1,025th
+// are tested and not kept: a term of so many words is refused by its length.
+
+// What is known of a line so far.
+pub struct Request {
+    // 0 before the verb's end, 1 among the numbers, 2 behind the bar
+    pub phase: u32,
+    // the letters of the verb, as one number
+    pub verb: u64,
+    pub first: u32,
+    pub second: u32,
+    pub numbers: u32,
+    // the field being read, and how many bytes it has
+    pub field: u64,
+    pub width: u32,
+    // how many words are kept
+    pub count: usize,
+    // whether any byte was read, and whether the line is no request
+    pub any: bool,
+    pub wrong: bool,
+}
+
+impl Request {
+    pub fn new() -> Self {
+        Request {
+            phase: 0,
+            verb: 0,
+            first: 0,
+            second: 0,
+            numbers: 0,
+            field: 0,
+            width: 0,
+            count: 0,
+            any: false,
+            wrong: false,
+        }
+    }
+
+    pub fn begun(self) -> bool {
+        self.any
+    }
+
+    // With one more byte.
+    pub fn fed(mut self, byte: u8, words: &mut [u16]) -> Self {
+        self.any = true;
+        match byte {
+            b' ' | b'\t' | b'\r' => self.field_ended(words),
+            b'|' => self.bar(words),
+            b'0'..=b'9' => self.digit(byte - b'0'),
+            b'a'..=b'z' => self.letter(byte),
+            _ => self.refused(),
+        }
+    }
+
+    fn refused(mut self) -> Self {
+        self.wrong = true;
+        self
+    }
+
+    fn letter(mut self, byte: u8) -> Self {
+        if self.phase != 0 {
+            return self.refused();
+        }
+        if 4 < self.width {
+            return self.refused();
+        }
+        self.field = self.field % 4294967296 * 256 + byte as u64;
+        self.width += 1;
+        self
+    }
+
+    fn digit(mut self, value: u8) -> Self {
+        if self.phase == 0 {
+            return self.refused();
+        }
+        if 4294967295 < self.field {
+            return self.refused();
+        }
+        self.field = self.field * 10 + value as u64;
+        self.width = 1;
+        self
+    }
+
+    // The field is at its end: the verb, a number or a word.
+    fn field_ended(mut self, words: &mut [u16]) -> Self {
+        if self.width == 0 {
+            return self;
+        }
+        let field = self.field;
+        self.field = 0;
+        self.width = 0;
+        if self.phase == 0 {
+            self.verb = field;
+            self.phase = 1;
+            return self;
+        }
+        if self.phase == 1 {
+            return self.number(field);
+        }
+        self.word(field, words)
+    }
+
+    fn number(mut self, value: u64) -> Self {
+        if 4294967295 < value {
+            return self.refused();
+        }
+        if self.numbers == 0 {
+            self.first = value as u32;
+            self.numbers = 1;
+            return self;
+        }
+        if self.numbers == 1 {
+            self.second = value as u32;
+            self.numbers = 2;
+            return self;
+        }
+        self.refused()
+    }
+
+    fn word(mut self, value: u64, words: &mut [u16]) -> Self {
+        if 65535 < value {
+            return self.refused();
+        }
+        let count = self.count;
+        if count < words.len() {
+            words[count] = value as u16;
+            self.count = count + 1;
+        }
+        self
+    }
+
+    fn bar(self, words: &mut [u16]) -> Self {
+        let mut line = self.field_ended(words);
+        if line.phase != 1 {
+            return line.refused();
+        }
+        line.phase = 2;
+        line
+    }
+
+    // The line is at its end.
+    pub fn ended(self, words: &mut [u16]) -> Self {
+        let line = self.field_ended(words);
+        if line.phase != 2 {
+            return line.refused();
+        }
+        line
+    }
+}

@@ -1,0 +1,35 @@
+-- Document 01's numbers for the outcomes of the calls, as the structs of C and Rust hold them.
+use Prim.Native.Nat.{ℕ}
+use mathlib.Core.List.{List}
+use mathlib.Core.Path.{_≡_}
+use Rattle.calculus.specs.Answer.{Answer, ok, refused, number}
+use Rattle.calculus.specs.Run.{end-number}
+use Rattle.calculus.specs.Outcomes as calculus
+use Rattle.feguavy.specs.declared.CheckedNumbers.{CheckedNumbers}
+use Rattle.feguavy.specs.declared.RanNumbers.{RanNumbers}
+use Rattle.feguavy.specs.declared.FoundNumbers.{FoundNumbers}
+
+-- A check: 0, 0 and the length, or the number of the refusal, its place and 0.
+unfoldable pub checked-numbers : Answer ℕ → CheckedNumbers
+checked-numbers (ok n) = record { answer = 0; place = 0; length = n }
+checked-numbers (refused r p) = record { answer = number r; place = p; length = 0 }
+
+pub record Numbered-check (c : calculus.Checked) (r : CheckedNumbers) (W O : List ℕ) : Type 0 where
+  pub numbers : r ≡ checked-numbers (c .answer)
+  pub work : W ≡ c .work
+  pub output : O ≡ c .output
+
+-- A run: 0, 0, the end and the steps, or the number of the refusal, its place, 0 and 0; and the allowance left.
+unfoldable pub ran-numbers : Answer calculus.Stop → ℕ → RanNumbers
+ran-numbers (ok s) left =
+    record { answer = 0; place = 0; end = end-number (s .end); steps = s .steps; allowance = left }
+ran-numbers (refused r p) left = record { answer = number r; place = p; end = 0; steps = 0; allowance = left }
+
+pub record Numbered-run (c : calculus.Ran) (r : RanNumbers) (W S : List ℕ) : Type 0 where
+  pub numbers : r ≡ ran-numbers (c .answer) (c .allowance)
+  pub work : W ≡ c .work
+  pub state : S ≡ c .state
+
+-- A part lookup, with its place.
+abbrev pub found-numbers : FoundNumbers → calculus.Found
+found-numbers f = record { start = f .start; extent = f .length }

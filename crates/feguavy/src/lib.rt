@@ -1,0 +1,149 @@
+// The calls `check`, `run` and `part` for C and Rust. Numbers are those of document 01.
+use evaluation::Desk;
+use evaluation::End;
+use evaluation::Ran;
+use evaluation::run;
+use term::find;
+use term::refusal::Reason;
+use typing::Checked;
+use typing::check;
+ghost use mathlib.Core.Path.{_≡_};
+ghost use Rattle.term.specs.Reasons.{number-of};
+ghost use Rattle.calculus.specs.Run.{end-number};
+ghost use Rattle.calculus.specs.Outcomes as calculus;
+ghost use Rattle.calculus.specs.Safety.{SafeRun};
+ghost use Rattle.evaluation.specs.Outcomes.{end-of};
+ghost use Rattle.feguavy.specs.Numbers.{Numbered-check, Numbered-run, found-numbers};
+
+// The answer of a check: 0 and the length of the type, or the number of the refusal and its place.
+#[repr(C)]
+pub struct CheckedNumbers {
+    pub answer: u32,
+    pub place: u32,
+    pub length: u32,
+}
+
+// The answer of a run: 0 with its end and its steps, or the number of the refusal and its place; and the allowance left.
+#[repr(C)]
+pub struct RanNumbers {
+    pub answer: u32,
+    pub place: u32,
+    pub end: u32,
+    pub steps: u32,
+    pub allowance: u32,
+}
+
+// Where a part stands: 0, 0 where there is none.
+#[repr(C)]
+pub struct FoundNumbers {
+    pub start: usize,
+    pub length: usize,
+}
+
+// Document 01's number of a reason.
+fn number(reason: Reason) -> u32
+    ensures { λ r. ⌜ r ≡ number-of reason ⌝ }
+{
+    match reason {
+        Reason::LimitNotAllowed => 1,
+        Reason::WorkShort => 2,
+        Reason::OutputShort => 3,
+        Reason::LengthNotAllowed => 4,
+        Reason::NoMeaning => 5,
+        Reason::ListEnds => 6,
+        Reason::WordsAfter => 7,
+        Reason::Level65 => 8,
+        Reason::Unbound => 9,
+        Reason::NotStar => 10,
+        Reason::NotProduct => 11,
+        Reason::WrongArgument => 12,
+        Reason::NoStep => 13,
+        Reason::WrongCast => 14,
+        Reason::WrongRecursion => 15,
+        Reason::OverLimit => 16,
+    }
+}
+
+// Document 01's number of an end.
+fn number_of_end(end: End) -> u32
+    ensures { λ r. ⌜ r ≡ end-number (end-of end) ⌝ }
+{
+    match end {
+        End::Value => 1,
+        End::Spent => 2,
+        End::Stuck => 3,
+        End::Long => 4,
+    }
+}
+
+#[no_mangle]
+pub extern "C" fn feguavy_check(
+    term: &[u16],
+    limit: u32,
+    work: &mut [u16],
+    output: &mut [u16],
+) -> CheckedNumbers
+    ensures { λ r. ⌜ Numbered-check (calculus.check (now (term .entry)) limit (now (work .entry)) (now (output .entry))) r (now (work .exit)) (now (output .exit)) ⌝ }
+{
+    match check(term, limit, work, output) {
+        Checked::Typed(length) => CheckedNumbers {
+            answer: 0,
+            place: 0,
+            length: length as u32,
+        },
+        Checked::Refused(refusal) => {
+            let reason = refusal.reason;
+            CheckedNumbers {
+                answer: number(reason),
+                place: refusal.place as u32,
+                length: 0,
+            }
+        }
+    }
+}
+
+#[no_mangle]
+pub extern "C" fn feguavy_run(
+    term: &[u16],
+    budget: u32,
+    work: &mut [u16],
+    state: &mut [u16],
+    allowance: u32,
+) -> RanNumbers
+    ensures outcome { λ r. ⌜ Numbered-run (calculus.run (now (term .entry)) budget allowance (now (work .entry)) (now (state .entry))) r (now (work .exit)) (now (state .exit)) ⌝ }
+    ensures safety { λ r. ⌜ SafeRun (now (term .entry)) budget allowance (now (work .entry)) (now (state .entry)) (calculus.run (now (term .entry)) budget allowance (now (work .entry)) (now (state .entry))) ⌝ }
+{
+    let outcome = run(term, budget, work, state, Desk { allowance });
+    let left = outcome.desk.allowance;
+    let answer = outcome.answer;
+    match answer {
+        Ran::Ended(end, steps) => RanNumbers {
+            answer: 0,
+            place: 0,
+            end: number_of_end(end),
+            steps: steps.total,
+            allowance: left,
+        },
+        Ran::Refused(refusal) => {
+            let reason = refusal.reason;
+            RanNumbers {
+                answer: number(reason),
+                place: refusal.place as u32,
+                end: 0,
+                steps: 0,
+                allowance: left,
+            }
+        }
+    }
+}
+
+#[no_mangle]
+pub extern "C" fn feguavy_part(term: &[u16], number: u32) -> FoundNumbers
+    ensures { λ r. ⌜ found-numbers r ≡ calculus.found (now (term .entry)) number ⌝ }
+{
+    let found = find(term, number);
+    FoundNumbers {
+        start: found.start,
+        length: found.length,
+    }
+}

@@ -1,0 +1,73 @@
+//! The functions of the archive, as include/feguavy.h declares them. They have no `requires`: any slices and numbers will do.
+
+#[repr(C)]
+pub struct CheckedNumbers {
+    pub answer: u32,
+    pub place: u32,
+    pub length: u32,
+}
+
+#[repr(C)]
+pub struct RanNumbers {
+    pub answer: u32,
+    pub place: u32,
+    pub end: u32,
+    pub steps: u32,
+    pub allowance: u32,
+}
+
+#[repr(C)]
+pub struct FoundNumbers {
+    pub start: usize,
+    pub length: usize,
+}
+
+extern "C" {
+    fn feguavy_check(
+        term: *const u16,
+        term_len: usize,
+        limit: u32,
+        work: *mut u16,
+        work_len: usize,
+        output: *mut u16,
+        output_len: usize,
+    ) -> CheckedNumbers;
+    fn feguavy_run(
+        term: *const u16,
+        term_len: usize,
+        budget: u32,
+        work: *mut u16,
+        work_len: usize,
+        state: *mut u16,
+        state_len: usize,
+        allowance: u32,
+    ) -> RanNumbers;
+    fn feguavy_part(term: *const u16, term_len: usize, number: u32) -> FoundNumbers;
+}
+
+// Each call lends slices that Rust keeps apart and alive for its length, and the functions keep nothing.
+
+pub fn check(term: &[u16], limit: u32, work: &mut [u16], output: &mut [u16]) -> CheckedNumbers {
+    unsafe {
+        feguavy_check(term.as_ptr(), term.len(), limit, work.as_mut_ptr(), work.len(), output.as_mut_ptr(), output.len())
+    }
+}
+
+pub fn run(term: &[u16], budget: u32, work: &mut [u16], state: &mut [u16], allowance: u32) -> RanNumbers {
+    unsafe {
+        feguavy_run(
+            term.as_ptr(),
+            term.len(),
+            budget,
+            work.as_mut_ptr(),
+            work.len(),
+            state.as_mut_ptr(),
+            state.len(),
+            allowance,
+        )
+    }
+}
+
+pub fn part(term: &[u16], number: u32) -> FoundNumbers {
+    unsafe { feguavy_part(term.as_ptr(), term.len(), number) }
+}

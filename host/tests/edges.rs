@@ -1,0 +1,133 @@
+//! The edges of document 01 and the settled readings of docs/DECISIONS.md.
+
+use feguavy::{part, Buffers, End, Ended, Reason, Refusal};
+
+fn words(text: &str) -> Vec<u16> {
+    text.split_whitespace().map(|w| w.parse().unwrap()).collect()
+}
+
+fn types(limit: u32, term: &str, expected: &str) {
+    let mut buffers = Buffers::for_limit(limit);
+    assert_eq!(buffers.type_of(&words(term)), Ok(&words(expected)[..]), "{term} at {limit}");
+}
+
+fn refuses(limit: u32, term: &[u16], number: u32, place: usize) {
+    let mut buffers = Buffers::for_limit(limit);
+    let refusal = buffers.type_of(term).unwrap_err();
+    assert_eq!((refusal.reason.number(), refusal.place), (number, place), "{term:?} at {limit}");
+}
+
+fn ends(term: &str, budget: u32, end: End, steps: u32, state: &str) {
+    let mut buffers = Buffers::for_limit(1);
+    let (ran, reached) = buffers.run(&words(term), budget, u32::MAX);
+    assert_eq!(ran.answer, Ok(Ended { end, steps }), "{term}");
+    assert_eq!(ran.allowance, u32::MAX - steps);
+    assert_eq!(reached, words(state));
+}
+
+#[test]
+fn terms_at_the_edges() {
+    types(64, "0", "0");
+    refuses(64, &[1, 0], 13, 0);
+    refuses(64, &[2, 0, 0], 11, 0);
+    ends("2 0 0", 1, End::Stuck, 0, "2 0 0");
+    types(64, "4 0 16", "5 0 0");
+    refuses(64, &[4, 0, 17], 9, 2);
+    types(64, "6 0 16", "0");
+    for budget in [0, 1, 2, 1000] {
+        ends("6 0 16", budget, End::Spent, budget, "6 0 16");
+    }
+    types(64, "3 2 4 0 16 0 0", "2 4 0 16 0");
+    refuses(64, &words("3 2 4 0 16 0 4 0 16"), 14, 0);
+    refuses(64, &words("3 6 0 16 0"), 14, 0);
+    types(5, "4 0 4 16 16", "5 0 5 16 17");
+    refuses(4, &words("4 0 4 16 16"), 16, 0);
+    types(64, "2 4 0 4 16 16 0", "5 0 0");
+    refuses(64, &words("2 4 0 16 4 0 16"), 12, 0);
+    refuses(64, &words("6 0 4 0 16"), 15, 0);
+    refuses(64, &words("4 4 0 16 0"), 10, 1);
+    refuses(64, &[], 4, 0);
+    refuses(64, &[7], 5, 0);
+    refuses(64, &[2, 0], 6, 2);
+    refuses(64, &[0, 0], 7, 1);
+}
+
+#[test]
+fn levels_and_lengths() {
+    let mut casts = vec![1; 63];
+    casts.push(0);
+    refuses(64, &casts, 13, 62);
+    casts.insert(0, 1);
+    refuses(64, &casts, 8, 64);
+    refuses(64, &[1; 64], 6, 64);
+    refuses(64, &[0; 1025], 4, 0);
+    refuses(64, &[0; 1024], 7, 1);
+    // a meaningless word at level 65 is 5, a variable out of scope there 8
+    let mut deep = vec![1; 64];
+    deep.push(7);
+    refuses(64, &deep, 5, 64);
+    deep[64] = 16;
+    refuses(64, &deep, 8, 64);
+    // an earlier 9 comes before a later 5
+    refuses(64, &[2, 16, 7], 9, 1);
+}
+
+#[test]
+fn settled_readings() {
+    refuses(64, &words("2 0 1 0"), 11, 0);
+    refuses(64, &words("2 4 0 16 1 0"), 13, 4);
+    refuses(4, &words("3 2 4 0 16 0 4 0 16"), 14, 0);
+    refuses(4, &words("3 2 4 0 16 0 0"), 16, 0);
+    refuses(2, &words("6 5 0 0 0"), 15, 0);
+    refuses(2, &words("4 4 0 16 0"), 16, 1);
+    refuses(2, &words("4 5 0 0 16"), 16, 4);
+    types(1, "5 5 0 0 0", "0");
+    refuses(4, &words("3 2 4 0 5 16 5 17 18 0 0"), 16, 0);
+    refuses(5, &words("3 2 4 0 5 16 5 17 18 0 0"), 14, 0);
+    refuses(0, &[0], 1, 0);
+    refuses(1025, &[0], 1, 0);
+    refuses(u32::MAX, &[0], 1, 0);
+}
+
+#[test]
+fn parts() {
+    let term = words("2 4 0 16 5 0 0");
+    assert_eq!(part(&term, 1), [4, 0, 16]);
+    assert_eq!(part(&term, 2), [5, 0, 0]);
+    assert_eq!(part(&term, 2).as_ptr(), term[4..].as_ptr());
+    for number in [0, 3, 4, u32::MAX] {
+        assert!(part(&term, number).is_empty());
+    }
+    assert_eq!(part(&[1, 0], 1), [0]);
+    assert!(part(&[1, 0], 2).is_empty());
+    assert!(part(&[0], 1).is_empty());
+    assert!(part(&[], 1).is_empty());
+    assert!(part(&[0, 0], 1).is_empty());
+    assert!(part(&[4, 0, 17], 2).is_empty());
+    // a part may be an open term
+    assert_eq!(part(&[4, 0, 16], 2), [16]);
+}
+
+#[test]
+fn ends_of_runs() {
+    ends("1 3 2 4 0 16 0 0", 1000, End::Value, 1, "0");
+    ends("1 3 2 4 0 16 0 0", 1, End::Spent, 1, "0");
+    ends("1 3 2 4 0 16 0 0", 0, End::Spent, 0, "1 3 2 4 0 16 0 0");
+    ends("0", 0, End::Spent, 0, "0");
+    let mut buffers = Buffers::for_limit(1);
+    // μ x : ⋆. x x doubles: the state with which it ends is the last within 1,024 words
+    let (ran, state) = buffers.run(&words("6 0 2 16 16"), 1000, 1000);
+    assert_eq!(ran.answer.unwrap().end, End::Long);
+    assert!(state.len() <= 1024);
+    let refused = buffers.run(&[7], 5, 3).0;
+    assert_eq!(refused.answer, Err(Refusal { reason: Reason::NoMeaning, place: 0 }));
+    assert_eq!(refused.allowance, 3);
+}
+
+#[test]
+fn texts() {
+    for (i, reason) in Reason::ALL.into_iter().enumerate() {
+        assert_eq!(reason.number() as usize, i + 1);
+        assert!(!reason.to_string().is_empty());
+    }
+}

@@ -1,0 +1,94 @@
+//! Every word of every lent slice, before and after, at each boundary length.
+
+use feguavy::{check, check_work, length, run, Checked, LONGEST, RUN_WORK};
+
+fn garbage(count: usize) -> Vec<u16> {
+    (0..count).map(|i| (i % 20000) as u16 + 40000).collect()
+}
+
+const TERMS: [&[u16]; 8] =
+    [&[], &[0], &[7], &[2, 0], &[2, 0, 0], &[4, 0, 4, 16, 16], &[1, 3, 2, 4, 0, 16, 0, 0], &[6, 0, 2, 16, 16]];
+
+fn lengths(around: usize) -> Vec<usize> {
+    let mut all = vec![0, around, around + 1, around + 7];
+    if around > 0 {
+        all.push(around - 1);
+    }
+    all
+}
+
+#[test]
+fn checks() {
+    for term in TERMS {
+        for limit in [0, 1, 4, 5, 64, 1023, 1024, 1025] {
+            let room = check_work(limit.min(1024));
+            for work_len in lengths(room) {
+                for output_len in lengths(limit as usize) {
+                    let (mut work, mut output) = (garbage(work_len), garbage(output_len));
+                    let answer = check(term, limit, &mut work, &mut output);
+                    let (before, kept) = (garbage(work_len), garbage(output_len));
+                    let first = match answer {
+                        Checked::Typed(n) => {
+                            assert_eq!(output[n..], kept[n..]);
+                            assert_eq!(length(&output[..n]), n);
+                            17
+                        }
+                        Checked::Refused(r) => {
+                            assert_eq!(output, kept);
+                            r.reason.number()
+                        }
+                    };
+                    let expected = if limit == 0 || limit > 1024 {
+                        Some(1)
+                    } else if work_len < room {
+                        Some(2)
+                    } else if output_len < limit as usize {
+                        Some(3)
+                    } else {
+                        None
+                    };
+                    assert!(expected.map_or(first > 3, |number| number == first));
+                    if first <= 9 {
+                        assert_eq!(work, before);
+                    } else {
+                        assert!(work[..room].iter().all(|&w| w == 0));
+                        assert_eq!(work[room..], before[room..]);
+                    }
+                }
+            }
+        }
+    }
+}
+
+#[test]
+fn runs() {
+    for term in TERMS {
+        for (budget, allowance) in [(0, 5), (1, 5), (7, 3), (1000, u32::MAX), (3, 0)] {
+            for work_len in lengths(RUN_WORK) {
+                for state_len in lengths(LONGEST) {
+                    let (mut work, mut state) = (garbage(work_len), garbage(state_len));
+                    let ran = run(term, budget, &mut work, &mut state, allowance);
+                    let (before, kept) = (garbage(work_len), garbage(state_len));
+                    match ran.answer {
+                        Err(refusal) => {
+                            assert_eq!((&work, &state, ran.allowance), (&before, &kept, allowance));
+                            let number = refusal.reason.number();
+                            assert!((2..=9).contains(&number));
+                            assert_eq!(number == 2, work_len < RUN_WORK);
+                            assert_eq!(number == 3, work_len >= RUN_WORK && state_len < LONGEST);
+                        }
+                        Ok(ended) => {
+                            assert!(work_len >= RUN_WORK && state_len >= LONGEST);
+                            assert!(work[..RUN_WORK].iter().all(|&w| w == 0));
+                            assert_eq!(work[RUN_WORK..], before[RUN_WORK..]);
+                            let n = length(&state);
+                            assert_eq!(state[n..], kept[n..]);
+                            assert!(ended.steps <= budget.min(allowance));
+                            assert_eq!(ran.allowance, allowance - ended.steps);
+                        }
+                    }
+                }
+            }
+        }
+    }
+}

@@ -1,0 +1,21 @@
+//! Calls from several threads at once: there is no shared state, each caller lends its own slices.
+
+use feguavy::Buffers;
+
+#[test]
+fn several_at_once() {
+    let term: Vec<u16> = vec![2, 4, 0, 4, 16, 16, 0];
+    std::thread::scope(|scope| {
+        for thread in 0..4u32 {
+            let term = &term;
+            scope.spawn(move || {
+                let mut buffers = Buffers::for_limit(64 + thread);
+                for _ in 0..2000 {
+                    assert_eq!(buffers.type_of(term), Ok(&[5, 0, 0][..]));
+                    let (ran, state) = buffers.run(&[6, 0, 16], thread, 100);
+                    assert_eq!((ran.allowance, state), (100 - thread, &[6, 0, 16][..]));
+                }
+            });
+        }
+    });
+}

@@ -1,0 +1,86 @@
+/* Feguavy: the proved checker for lambda-star-mu, for C.
+ *
+ * A term is a list of 16-bit words in prefix order (docs/FORMAT.md). The caller lends every slice, as a pointer and a number of
+ * words; nothing is kept between calls, so calls on different slices may run at the same time. Slices lent to one call must not
+ * overlap. A pointer to 0 words is not read, but must not be null.
+ */
+#ifndef FEGUAVY_H
+#define FEGUAVY_H
+
+#include <stddef.h>
+#include <stdint.h>
+
+#ifdef __cplusplus
+extern "C" {
+#endif
+
+/* The largest limit, the longest term or state, and the working words of a run. */
+#define FEGUAVY_LARGEST_LIMIT 1024
+#define FEGUAVY_LONGEST 1024
+#define FEGUAVY_RUN_WORK 4096
+/* The working words of a check at the limit L. */
+#define FEGUAVY_CHECK_WORK(L) (512 * (size_t)(L))
+
+/* Refusals. */
+enum {
+    FEGUAVY_LIMIT_NOT_ALLOWED = 1,   /* the limit is 0 or above 1,024 */
+    FEGUAVY_WORK_SHORT = 2,          /* the working slice is too short */
+    FEGUAVY_OUTPUT_SHORT = 3,        /* the output or state slice is too short */
+    FEGUAVY_LENGTH_NOT_ALLOWED = 4,  /* the term has 0 or over 1,024 words */
+    FEGUAVY_NO_MEANING = 5,          /* a word without meaning */
+    FEGUAVY_LIST_ENDS = 6,           /* the list ends inside the term */
+    FEGUAVY_WORDS_AFTER = 7,         /* words after the term */
+    FEGUAVY_LEVEL_65 = 8,            /* a node at level 65 */
+    FEGUAVY_UNBOUND = 9,             /* a variable outside all its binders */
+    FEGUAVY_NOT_STAR = 10,           /* a part whose type is not star */
+    FEGUAVY_NOT_PRODUCT = 11,        /* a function whose type is no product */
+    FEGUAVY_WRONG_ARGUMENT = 12,     /* an argument of another type than the domain */
+    FEGUAVY_NO_STEP = 13,            /* a cast whose type does not step */
+    FEGUAVY_WRONG_CAST = 14,         /* an up cast whose stepped annotation is not its body's type */
+    FEGUAVY_WRONG_RECURSION = 15,    /* a recursion whose body has another type than its annotation */
+    FEGUAVY_OVER_LIMIT = 16          /* a type longer than the limit */
+};
+
+/* Ends of a run. */
+enum {
+    FEGUAVY_VALUE = 1, /* the state is a value */
+    FEGUAVY_SPENT = 2, /* every step granted was taken */
+    FEGUAVY_STUCK = 3, /* the state is no value and has no next state */
+    FEGUAVY_LONG = 4   /* the next state is over 1,024 words */
+};
+
+/* answer: 0 where the term is typed, else the refusal; place: of the refusal, from 0; length: of the type, 0 where refused. */
+typedef struct {
+    uint32_t answer, place, length;
+} feguavy_checked;
+
+/* answer: 0 where the run ended, else the refusal; place: of the refusal; end, steps: 0 where refused; allowance: what is left. */
+typedef struct {
+    uint32_t answer, place, end, steps, allowance;
+} feguavy_ran;
+
+/* The part's first word and its number of words: 0, 0 where there is none. */
+typedef struct {
+    size_t start, length;
+} feguavy_found;
+
+/* The type of a closed term within a limit. Typed: the first `length` words of output are the type, the rest unchanged. Refused: the
+ * output is unchanged. The working slice is unchanged by refusals 1-9; after any other answer its first 512 x limit words are 0 and
+ * the rest is unchanged. */
+feguavy_checked feguavy_check(const uint16_t *term, size_t term_len, uint32_t limit, uint16_t *work, size_t work_len,
+                              uint16_t *output, size_t output_len);
+
+/* Steps a closed term, accepted or not, at most budget and at most allowance times. The state reached stands at the front of the
+ * state slice (it is self-delimiting), the rest unchanged; the first 4,096 words of the working slice are then 0, the rest
+ * unchanged. A refused run changes nothing. */
+feguavy_ran feguavy_run(const uint16_t *term, size_t term_len, uint32_t budget, uint16_t *work, size_t work_len, uint16_t *state,
+                        size_t state_len, uint32_t allowance);
+
+/* The first or second part of a closed term, as a place in the caller's own words. */
+feguavy_found feguavy_part(const uint16_t *term, size_t term_len, uint32_t number);
+
+#ifdef __cplusplus
+}
+#endif
+
+#endif
