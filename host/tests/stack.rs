@@ -2,26 +2,28 @@
 
 use feguavy::{Buffers, LARGEST_LIMIT};
 use std::hint::black_box;
-use std::mem::MaybeUninit;
 
 const DEPTH: usize = 2 << 20;
+const EDGE: usize = 2048;
 const PAINT: u8 = 0xa5;
 
-/// Leaves painted bytes below the caller's frame.
+/// An address in the frame of a function that the caller calls: what a call takes lies below it, but for a few words.
 #[inline(never)]
-fn paint() {
-    let mut area = MaybeUninit::<[u8; DEPTH]>::uninit();
-    unsafe { area.as_mut_ptr().cast::<u8>().write_bytes(PAINT, DEPTH) };
-    black_box(&mut area);
+fn below() -> *mut u8 {
+    let mut here = 0u8;
+    black_box(&mut here)
 }
 
-/// How many of the bytes that `paint` left were written since, from the top down.
+/// Paints the unused stack from a little below `top` down. The thread's stack is larger than that.
 #[inline(never)]
-fn used() -> usize {
-    let mut area = MaybeUninit::<[u8; DEPTH]>::uninit();
-    let low = black_box(area.as_mut_ptr()).cast::<u8>();
-    let clean = (0..DEPTH).take_while(|&i| unsafe { low.add(i).read_volatile() } == PAINT).count();
-    DEPTH - clean
+fn paint(top: *mut u8) {
+    (EDGE..DEPTH).for_each(|i| unsafe { top.sub(i).write_volatile(PAINT) });
+}
+
+/// How far below `top` something was written since.
+#[inline(never)]
+fn used(top: *mut u8) -> usize {
+    (EDGE..DEPTH).rev().find(|&i| unsafe { top.sub(i).read_volatile() } != PAINT).unwrap_or(EDGE)
 }
 
 /// The stack that a call takes, on a thread of its own.
@@ -30,9 +32,10 @@ fn stack_of(call: impl Fn(&mut Buffers) + Sync) -> usize {
         let thread = std::thread::Builder::new().stack_size(8 << 20);
         let work = || {
             let mut buffers = Buffers::for_limit(LARGEST_LIMIT);
-            paint();
+            let top = below();
+            paint(top);
             call(&mut buffers);
-            used()
+            used(top)
         };
         thread.spawn_scoped(scope, work).unwrap().join().unwrap()
     })
@@ -58,15 +61,15 @@ fn under_one_mebibyte() {
     let mut most = 0;
     let deep: Vec<Vec<u16>> = (2..=6).flat_map(|kind| [nested(kind, 63, true), nested(kind, 63, false)]).collect();
     for term in deep.iter().chain([&nested(5, 9, true)]) {
-        most = most.max(stack_of(|b| drop(b.type_of(term).map(|t| t.len()))));
-        most = most.max(stack_of(|b| drop(b.run(term, 1000, 1000))));
+        most = most.max(stack_of(|b| _ = b.type_of(term)));
+        most = most.max(stack_of(|b| _ = b.run(term, 1000, 1000)));
     }
     for node in [&[1, 16][..], &[2, 16, 0], &[2, 0, 16], &[5, 0, 17], &[5, 16, 0], &[4, 0, 17], &[3, 0, 16], &[6, 0, 17]] {
         let term = growing(node);
-        most = most.max(stack_of(|b| drop(b.run(&term, 2000, 2000))));
+        most = most.max(stack_of(|b| _ = b.run(&term, 2000, 2000)));
         // the state put into a body once more, at full depth
         let applied = [&[2, 4, 0][..], &[5, 0, 17], &term[..]].concat();
-        most = most.max(stack_of(|b| drop(b.run(&applied, 2000, 2000))));
+        most = most.max(stack_of(|b| _ = b.run(&applied, 2000, 2000)));
     }
     println!("at most {most} bytes of stack");
     assert!(most < 1 << 20);

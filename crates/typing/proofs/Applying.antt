@@ -1,7 +1,6 @@
 -- What inference answers for an application, by what it found of the parts: each is the definition, computed along the tests that
 -- passed.
 use Prim.Native.Nat.{ℕ, suc, _+_}
-use mathlib.Core.Bool.{true, false}
 use mathlib.Core.Logic.{_≢_}
 use mathlib.Core.Path.{_≡_, refl, ap, _∙_}
 use Rattle.calculus.specs.Term.{Term, app, pi, size, substitute}

@@ -4,14 +4,14 @@ use Prim.Native.Nat.{ℕ, suc, _+_, _-_, _≤_}
 use mathlib.Core.Bool.{Bool, true, false}
 use mathlib.Core.List.{List}
 use mathlib.Core.Logic.{_↔_, _≢_}
-use mathlib.Core.Path.{_≡_, refl, sym, ap, subst, _∙_}
+use mathlib.Core.Path.{_≡_, sym, ap, subst, _∙_}
 use native.Mathlib.Nat.{add-assoc}
 use native.Mathlib.Omega.{arith}
 use lib.ListN.{length, take, drop, getD}
 use lib.Seq.{take-all, take-at, drop-at, drop-drop, take-take}
 use Rattle.calculus.specs.Term.{Term, app, pi, size}
 use Rattle.calculus.specs.Answer.{ok}
-use Rattle.calculus.specs.Words.{emit, words, Scoped, longest, deepest}
+use Rattle.calculus.specs.Words.{emit, words, Scoped, longest}
 use Rattle.calculus.specs.Reading.{meaning, a-pi}
 use Rattle.calculus.specs.Rules.{Context}
 use Rattle.calculus.specs.Infer.{infer}
@@ -20,10 +20,11 @@ use Rattle.reduction.specs.Stepping.{Codes}
 use Rattle.term.specs.Walk.{span}
 use Rattle.term.proofs.Walking.{span-emit}
 use Rattle.typing.specs.Inference.{Subject}
-use Rattle.typing.proofs.Subjects.{behind, between as part-words, of-app, first, second, kept, place-first, place-second}
+use Rattle.typing.proofs.Nodes.{of-app}
+use Rattle.typing.proofs.Subjects.{behind, between as part-words, first, second, kept, place-first, place-second}
 use Rattle.typing.proofs.Rooms.{scoped-more, subject-shallow, deeper-scoped}
 use Rattle.typing.proofs.Types.{type-scoped, type-fits}
-use Rattle.typing.proofs.Passing.{Part, lying}
+use Rattle.typing.proofs.Passing.{Part}
 use Rattle.typing.proofs.Heads.{Headed, lying-headed, lying-pi}
 use Rattle.typing.proofs.Written.{same-part}
 

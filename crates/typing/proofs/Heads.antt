@@ -1,6 +1,6 @@
 -- The first word of a term says which node it is, in the words read and in the words of a type that was found: so the code's one
 -- decision over a word is a decision over terms.
-use Prim.Native.Nat.{ℕ, zero, suc, _+_, _<_}
+use Prim.Native.Nat.{ℕ}
 use mathlib.Core.Bool.{not}
 use mathlib.Core.List.{List, [], _∷_}
 use mathlib.Core.Logic.{_≢_}
@@ -39,7 +39,7 @@ Headed a-mu e = (a : Term) × (d : Term) × (e ≡ mu a d)
 Headed (a-variable i) e = e ≡ var i
 Headed nothing e = ⊥
 
-pub headed : (e : Term) (r : List ℕ) → Scoped deepest e → Headed (meaning (getD (emit e r) 0 0)) e
+headed : (e : Term) (r : List ℕ) → Scoped deepest e → Headed (meaning (getD (emit e r) 0 0)) e
 unfolding Headed emit meaning Scoped word Indexed
 headed (var i) r s = subst (λ m. Headed m (var i)) (sym (meaning-word (a-variable i) (omega arith))) refl
 headed star r s = refl
@@ -61,7 +61,7 @@ subject-headed {e} S x =
     (headed e (S .rest) (deeper-scoped S e (own-scope S)))
 
 -- The first word of what lies in a slice.
-pub lying-word : (τ : Term) (m top : ℕ) (after : List ℕ)
+lying-word : (τ : Term) (m top : ℕ) (after : List ℕ)
     → take m (drop top after) ≡ words τ
     → m ≡ size τ
     → getD after top 0 ≡ getD (words τ) 0 0

@@ -1,6 +1,7 @@
 -- Lemmas for the proofs of this crate's functions.
 pub mod Scoping
 pub mod Passing
+pub mod Nodes
 pub mod Subjects
 pub mod Rooms
 pub mod Alike

@@ -13,7 +13,8 @@ use Rattle.calculus.specs.Rules.{Context}
 use Rattle.calculus.specs.Infer.{infer}
 use Rattle.calculus.proofs.Coding.{size-positive}
 use Rattle.typing.specs.Inference.{Subject, star-typed}
-use Rattle.typing.proofs.Subjects.{Two, two-size, behind, subject-long, first, second, under, kept, still, place-first, place-second, between}
+use Rattle.typing.proofs.Nodes.{Two, two-size}
+use Rattle.typing.proofs.Subjects.{behind, subject-long, first, second, under, kept, still, place-first, place-second, between}
 use Rattle.typing.proofs.Passing.{Part, starred}
 use Rattle.typing.proofs.Types.{type-typed, type-fits}
 

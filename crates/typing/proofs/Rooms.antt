@@ -1,7 +1,7 @@
 -- The room of a part and the codes of what inference hands on. A part has a level less than its node, so that it needs one type's room
 -- less; a term in scope of the context within the limit is what the steps and the rewriting ask for, since no context is deeper than
 -- 64 annotations.
-use Prim.Native.Nat.{ℕ, suc, _+_, _*_, _≤_, _<_}
+use Prim.Native.Nat.{ℕ, _+_, _≤_, _<_}
 use mathlib.Core.Bool.{Bool, true}
 use mathlib.Core.List.{List}
 use mathlib.Core.Path.{_≡_, sym, subst, _∙_}

@@ -1,70 +1,20 @@
 -- The parts of a subterm are subjects of inference themselves: the words behind a node's first word begin with its first part, and
 -- those behind that with its second; a part's place is the node's and the words before the part; places that are written from `depth`
 -- on change nothing for the annotations around.
-use Prim.Native.Nat.{ℕ, suc, _+_, _-_, _≤_, _<_}
+use Prim.Native.Nat.{ℕ, suc, _+_, _-_, _≤_}
 use mathlib.Core.List.{List, [], _∷_}
-use mathlib.Core.Path.{_≡_, refl, sym, ap, subst, _∙_}
+use mathlib.Core.Path.{_≡_, sym, ap, subst, _∙_}
 use native.Mathlib.Nat.{le-refl}
 use native.Mathlib.Numerals.{add-one}
 use native.Mathlib.Omega.{arith}
 use lib.ListN.{length, take, drop, getD, set, length-drop, length-set}
 use lib.Seq.{take-all, take-at, drop-at, drop-drop, take-take, take-set-le, getD-take, getD-set-same}
-use Rattle.calculus.specs.Term.{Term, star, app, lam, pi, castup, castdown, mu, size}
+use Rattle.calculus.specs.Term.{Term, star, castdown, size}
 use Rattle.calculus.specs.Words.{emit, words, levels, Scoped, deepest}
 use Rattle.calculus.specs.Rules.{Context, WellFormed, env-var, _⊢_⦂_}
 use Rattle.calculus.proofs.Coding.{emit-append, emit-length, words-length, size-positive}
 use Rattle.typing.specs.Inference.{Subject, Placed}
-
--- `Two k e a b`: the node `e` has the parts `a` and `b`, and binds `k` variables in `b`.
-pub data Two : ℕ → Term → Term → Term → Type 0 where
-  of-app : {f u : Term} → Two 0 (app f u) f u
-  of-castup : {a e : Term} → Two 0 (castup a e) a e
-  of-lam : {a e : Term} → Two 1 (lam a e) a e
-  of-pi : {a b : Term} → Two 1 (pi a b) a b
-  of-mu : {a e : Term} → Two 1 (mu a e) a e
-
-pub two-size : {k : ℕ} {e a b : Term} → Two k e a b → size e ≡ suc (size a + size b)
-unfolding size
-two-size of-app = refl
-two-size of-castup = refl
-two-size of-lam = refl
-two-size of-pi = refl
-two-size of-mu = refl
-
-pub two-levels : {k : ℕ} {e a b : Term} → Two k e a b → (levels a < levels e) × (levels b < levels e)
-unfolding levels
-two-levels of-app = omega arith
-two-levels of-castup = omega arith
-two-levels of-lam = omega arith
-two-levels of-pi = omega arith
-two-levels of-mu = omega arith
-
-two-emit : {k : ℕ} {e a b : Term} → Two k e a b → (r : List ℕ) → drop 1 (emit e r) ≡ emit a (emit b r)
-unfolding emit
-two-emit of-app r = refl
-two-emit of-castup r = refl
-two-emit of-lam r = refl
-two-emit of-pi r = refl
-two-emit of-mu r = refl
-
-first-scoped : {k : ℕ} {e a b : Term} → Two k e a b → (n : ℕ) → Scoped n e → Scoped n a
-unfolding Scoped
-first-scoped of-app n s = s .0
-first-scoped of-castup n s = s .0
-first-scoped of-lam n s = s .0
-first-scoped of-pi n s = s .0
-first-scoped of-mu n s = s .0
-
-second-scoped : {e a b : Term} → Two 0 e a b → (n : ℕ) → Scoped n e → Scoped n b
-unfolding Scoped
-second-scoped of-app n s = s .1
-second-scoped of-castup n s = s .1
-
-under-scoped : {e a b : Term} → Two 1 e a b → (n : ℕ) → Scoped n e → Scoped (suc n) b
-unfolding Scoped
-under-scoped of-lam n s = s .1
-under-scoped of-pi n s = s .1
-under-scoped of-mu n s = s .1
+use Rattle.typing.proofs.Nodes.{Two, two-size, two-levels, two-emit, first-scoped, second-scoped, under-scoped}
 
 -- The words from the `k`th on, as the code takes them.
 abbrev pub behind : ℕ → List ℕ → List ℕ

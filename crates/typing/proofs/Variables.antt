@@ -8,7 +8,7 @@ use native.Mathlib.Nat.{le-of-suc-le-suc}
 use native.Mathlib.Omega.{arith}
 use lib.ListN.{length, drop, getD}
 use Rattle.calculus.specs.Term.{Term, var, star, size, raise}
-use Rattle.calculus.specs.Words.{emit, Scoped, deepest}
+use Rattle.calculus.specs.Words.{emit, Scoped}
 use Rattle.calculus.specs.Rules.{Context, WellFormed, env-var}
 use Rattle.calculus.specs.Infer.{infer, measure, annotation}
 use Rattle.calculus.proofs.Bridge.{raise-moves, raise-more}

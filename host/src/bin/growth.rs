@@ -42,13 +42,13 @@ fn main() {
         black_box(feguavy::run(black_box(term), budget, &mut work, &mut result, u32::MAX).answer.unwrap());
     };
     match kind.as_str() {
-        "reading" => drop(black_box(feguavy::part(black_box(&shape(5, size, "balanced", 0)), 3).len())),
+        "reading" => _ = black_box(feguavy::part(black_box(&shape(5, size, "balanced", 0)), 3).len()),
         "left" | "right" | "balanced" => run(&redex(&kind, size), 1),
         "rest" => run(&redex("balanced", size), 0),
         "steps" => run(&looping(size), 1001),
         "first" => run(&looping(size), 1),
-        "limit" => drop(black_box(feguavy::check(black_box(&shape(5, 255, "balanced", 0)), size as u32, &mut work, &mut result))),
-        "term" => drop(black_box(feguavy::check(black_box(&shape(5, size, "balanced", 0)), 1024, &mut work, &mut result))),
+        "limit" => _ = black_box(feguavy::check(black_box(&shape(5, 255, "balanced", 0)), size as u32, &mut work, &mut result)),
+        "term" => _ = black_box(feguavy::check(black_box(&shape(5, size, "balanced", 0)), 1024, &mut work, &mut result)),
         _ => panic!("no such kind"),
     }
 }

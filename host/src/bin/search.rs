@@ -25,7 +25,7 @@ struct Bench {
 impl Bench {
     /// Nanoseconds of a check, the least of a few.
     fn check(&mut self, term: &[u16], limit: u32) -> u64 {
-        self.least(|b| drop(black_box(feguavy::check(black_box(term), limit, &mut b.work, &mut b.result))))
+        self.least(|b| _ = black_box(feguavy::check(black_box(term), limit, &mut b.work, &mut b.result)))
     }
 
     /// Nanoseconds of one step, over at most a hundred.
@@ -34,7 +34,7 @@ impl Bench {
             Ok(ended) if ended.steps > 0 => ended.steps as u64,
             _ => return 0,
         };
-        let run = |b: &mut Bench, budget| drop(black_box(feguavy::run(black_box(term), budget, &mut b.work, &mut b.result, 100)));
+        let run = |b: &mut Bench, budget| _ = black_box(feguavy::run(black_box(term), budget, &mut b.work, &mut b.result, 100));
         let none = self.least(|b| run(b, 0));
         self.least(|b| run(b, 100)).saturating_sub(none) / steps
     }

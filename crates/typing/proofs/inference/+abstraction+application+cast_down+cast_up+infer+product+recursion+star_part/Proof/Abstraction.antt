@@ -8,7 +8,8 @@ use native.Mathlib.Omega.{arith}
 use borrow.Author.Needs.{needs}
 use lib.ListN.{take, drop, length-set}
 use Rattle.calculus.specs.Term.{size}
-use Rattle.typing.proofs.Subjects.{of-lam, two-levels, behind-length, subject-some, subject-parts, first, place-first}
+use Rattle.typing.proofs.Nodes.{of-lam, two-levels}
+use Rattle.typing.proofs.Subjects.{behind-length, subject-some, subject-parts, first, place-first}
 use Rattle.typing.proofs.Rooms.{room-two, roomy-part, subject-shallow}
 use Rattle.typing.proofs.Passing.{found, passed, turned, typed}
 use Rattle.typing.proofs.Parts.{annotation-found, second-place, below}

@@ -1,88 +1,28 @@
 -- `application` meets its contract: what is asked of function and argument is what inference asks of them, the comparison compares
 -- the argument's type with the domain, and what is put in and written is the codomain.
-use Prim.Native.Nat.{ℕ, suc, _+_, _-_, _*_, _≤_, _<_, _^_}
+mod Known
+use Prim.Native.Nat.{ℕ, _+_}
 use mathlib.Core.Path.{_≡_, refl, sym, ap, _∙_}
 use native.Mathlib.Omega.{arith}
-use lib.ListN.{length}
 use borrow.Author.Needs.{needs}
-use borrow.Author.Tests.{eqb-true, not-true, not-false}
-use Rattle.calculus.specs.Term.{Term, app, size, substitute}
-use Rattle.calculus.specs.Words.{longest}
-use Rattle.calculus.specs.Rules.{Context}
-use Rattle.term.specs.Word.{meaning-of}
+use borrow.Author.Tests.{eqb-true, not-true}
+use Rattle.calculus.specs.Term.{size}
 use Rattle.calculus.proofs.Testing.{fitting, over}
-use Rattle.typing.specs.Inference.{Subject}
-use Rattle.typing.specs.Moving.{Puts}
-use Rattle.typing.proofs.Applying.{by-function, no-function, by-argument, wrong, right}
-use Rattle.typing.proofs.Calling.{Called, called, argument-subject, function-found, function-product, other-type, domain-span, codomain-words, codomain-codes, argument-words, same-type, told-same}
+use Rattle.term.specs.Word.{meaning-of}
+use Rattle.typing.proofs.Applying.{by-function, no-function, by-argument, wrong}
+use Rattle.typing.proofs.Calling.{argument-subject, argument-words, function-found, function-product, other-type, codomain-codes, told-same}
 use Rattle.typing.proofs.Heads.{not-product}
+use Rattle.typing.proofs.Nodes.{of-app, two-levels}
 use Rattle.typing.proofs.Passing.{passed, typed, turned, found}
 use Rattle.typing.proofs.Putting.{put, put-over}
 use Rattle.typing.proofs.Rooms.{roomy-part, room-two, subject-codes}
-use Rattle.typing.proofs.Subjects.{of-app, first, subject-some, subject-parts, two-levels, behind-length, place-first, place-second}
+use Rattle.typing.proofs.Subjects.{first, subject-some, subject-parts, behind-length, place-first, place-second}
 use Rattle.typing.proofs.Types.{type-fits}
 use Rattle.typing.proofs.Written.{written-type}
 use Rattle.typing.proofs.inference.application.Reads as application
 use Rattle.typing.proofs.inference.+abstraction+application+cast_down+cast_up+infer+product+recursion+star_part.Lts-application as application-lts
 use Rattle.typing.proofs.inference.+abstraction+application+cast_down+cast_up+infer+product+recursion+star_part.Proof.Measures.{application-at, application-claims}
-
--- The function is typed: the words up to the argument, and the room up to where its type will lie.
-record Reach (from sub next room : ℕ) : Type 0 where
-  within : from ≤ sub
-  short : sub ≤ longest
-  fits : next ≤ room
-  small : room * 2 < 2 ^ 63
-
-reach : (t : ℕ) (c : application-lts.After-enum-told2 (application-claims t) (application-at t) application.Post)
-    → Reach
-    (1 + c .before .before .before .before .before .function .given .0 .0)
-    (length (c .before .before .before .before .before .before .before .before .before .before .before .before .before .before .before .before .args .sub .now))
-    (c .before .before .before .before .before .before .before .before .before .before .before .before .before .before .before .before .args .top + c .before .before .before .before .before .function .given .0 .1 .0)
-    (length (c .before .before .before .before .before .before .before .before .before .before .before .before .before .before .before .before .args .work .now))
-reach t c =
-    let start = c .before .before .before .before .before .before .before .before .before .before .before .before .before .before .before .before in
-    let S = start .pre .1 .3 in
-    let function = typed (c .before .before .before .before .before .before .before .before .before .infer .ensures _ _ (first S of-app)) (c .before .before .before .before .before .function .given .1) in
-    let fits = type-fits (first S of-app) _ _ (function .found) in
-    record {
-      within = omega (arith, subject-parts S of-app, function .read);
-      short = omega (arith, S .within, S .short);
-      fits = omega (arith, function .long, fits, room-two (start .pre .1 .4));
-      small = start .good .1 .1 .1 .1 .0 .1;
-    }
-
--- Function and argument are typed.
-calls : (t : ℕ) (c : application-lts.After-known-told2 (application-claims t) (application-at t) application.Post) (Γ : Context) (f u : Term)
-    → Subject Γ (app f u) (c .before .before .before .before .before .before .before .before .before .before .before .before .before .before .before .before .before .before .before .before .before .before .before .before .before .args .term .now) (c .before .before .before .before .before .before .before .before .before .before .before .before .before .before .before .before .before .before .before .before .before .before .before .before .before .args .sub .now) (c .before .before .before .before .before .before .before .before .before .before .before .before .before .before .before .before .before .before .before .before .before .before .before .before .before .args .context .now) (c .before .before .before .before .before .before .before .before .before .before .before .before .before .before .before .before .before .before .before .before .before .before .before .before .before .args .depth)
-    → Called
-    (c .before .before .before .before .before .before .before .before .before .before .before .before .before .before .before .before .before .before .before .before .before .before .before .before .before .args .limit)
-    Γ
-    (length (c .before .before .before .before .before .before .before .before .before .before .before .before .before .before .before .before .before .before .before .before .before .before .before .before .before .args .term .now) - length (c .before .before .before .before .before .before .before .before .before .before .before .before .before .before .before .before .before .before .before .before .before .before .before .before .before .args .sub .now))
-    f
-    u
-    (c .before .before .before .before .before .before .before .before .before .before .before .before .before .before .before .before .before .before .before .before .before .before .before .before .before .args .context .now)
-    (c .before .before .before .before .before .before .before .before .before .before .before .before .before .before .before .before .before .before .before .before .before .before .before .before .before .args .depth)
-    (c .before .before .before .before .before .before .before .before .before .before .before .before .before .before .before .before .before .before .before .before .before .before .before .before .before .args .work .now)
-    (c .before .before .before .before .before .before .before .before .before .before .before .before .before .before .before .before .before .before .before .before .before .before .before .before .before .args .top)
-    (c .before .before .before .before .before .before .before .before .before .before .before .before .before .before .function .given .0 .0)
-    (c .before .argument .given .0 .0)
-    (c .before .before .before .before .before .before .before .before .before .before .before .before .before .before .function .given .0 .1 .0)
-    (c .before .argument .given .0 .1 .0)
-    (c .before .before .before .before .before .infer2 .last .1 .1 .1 .1 .0)
-    (c .before .before .before .before .before .infer2 .last .1 .1 .0)
-calls t c Γ f u S =
-    let function = typed (c .before .before .before .before .before .before .before .before .before .before .before .before .before .before .before .before .before .before .infer .ensures Γ f (first S of-app)) (c .before .before .before .before .before .before .before .before .before .before .before .before .before .before .function .given .1) in
-    called
-    S
-    _
-    function
-    (ap meaning-of (sym (c .before .before .before .before .before .before .before .before .before .enum-told2 .given .1)) ∙ c .before .before .before .before .before .before .before .before .before .before .before .classify .ensures)
-    (typed (c .before .before .before .before .before .infer2 .ensures Γ u (argument-subject S _ function)) (c .before .argument .given .1))
-
--- The slice is as long as it was.
-long : (t : ℕ) (c : application-lts.After-known-told2 (application-claims t) (application-at t) application.Post)
-    → length (c .before .before .before .before .before .infer2 .last .1 .1 .1 .1 .0) ≡ length (c .before .before .before .before .before .before .before .before .before .before .before .before .before .before .before .before .before .before .before .before .before .before .before .before .before .args .work .now)
-long t c = c .before .before .before .before .before .infer2 .kept .1 .1 .1 .1 .0 ∙ c .before .before .before .before .before .before .before .before .before .before .before .before .before .before .before .before .before .before .infer .kept .1 .1 .1 .1 .0
+use Rattle.typing.proofs.inference.+abstraction+application+cast_down+cast_up+infer+product+recursion+star_part.Proof.Application.Known.{reach, calls, long, domain-long, measured, puts}
 
 sub-place : (t : ℕ) → application-lts.Need-sub-place (application-claims t) (application-at t) application.Post
 sub-place t c = search needs
@@ -164,16 +104,21 @@ part-infer-end-2 t c = search needs
 
 infer-requires-2 : (t : ℕ) → application-lts.Need-infer-requires-2 (application-claims t) (application-at t) application.Post
 infer-requires-2 t c κs =
-    let start = c .before .before .before .before .before .before .before .before .before .before .before .before .before .before .before .before .before .before .before in
+    let after-function = c .before .before .before in
+    let start = after-function .before .before .before .before .before .before .before .before .before .before .before .before .before .before .before .before in
     let S = start .pre .1 .3 in
-    let function = typed (c .before .before .before .before .before .before .before .before .before .before .before .before .infer .ensures _ _ (first S of-app)) (c .before .before .before .before .before .before .before .before .function .given .1) in
+    let function = typed (after-function .before .before .before .before .before .before .before .before .before .infer .ensures _ _ (first S of-app)) (after-function .before .before .before .before .before .function .given .1) in
     let fits = type-fits (first S of-app) _ _ (function .found) in (
-      omega (arith, start .pre .0, behind-length (1 + c .before .before .before .before .before .before .before .before .function .given .0 .0) (start .args .sub .now), subject-some S),
+      omega (arith, start .pre .0, behind-length (1 + after-function .before .before .before .before .before .function .given .0 .0) (start .args .sub .now), subject-some S),
       (
         _,
         _,
         argument-subject S _ function,
-        roomy-part (start .pre .1 .4) (two-levels of-app .1) (c .before .before .before .before .before .before .before .before .before .before .before .before .infer .kept .1 .1 .1 .1 .0) (omega (arith, function .long, fits)),
+        roomy-part
+            (start .pre .1 .4)
+            (two-levels of-app .1)
+            (after-function .before .before .before .before .before .before .before .before .before .infer .kept .1 .1 .1 .1 .0)
+            (omega (arith, function .long, fits)),
       ),
     )
 
@@ -188,20 +133,25 @@ same-length-3 t c = search needs
 
 returns-3 : (t : ℕ) → application-lts.Need-returns-3 (application-claims t) (application-at t) application.Post
 returns-3 t c Γ f u S =
-    let function = typed (c .before .before .before .before .before .before .before .before .before .before .before .before .before .before .before .before .before .infer .ensures Γ f (first S of-app)) (c .before .before .before .before .before .before .before .before .before .before .before .before .before .function .given .1) in
+    let after-function = c .before .before .before .before .before .before .before .before in
+    let function = typed (after-function .before .before .before .before .before .before .before .before .before .infer .ensures Γ f (first S of-app)) (after-function .before .before .before .before .before .function .given .1) in
     passed
     _
     (c .before .before .before .before .infer2 .ensures Γ u (argument-subject S _ function))
     (c .enum-told3 .given .1)
     (by-argument _ Γ _ f u
-    (function-product S _ function (ap meaning-of (sym (c .before .before .before .before .before .before .before .before .enum-told2 .given .1)) ∙ c .before .before .before .before .before .before .before .before .before .before .classify .ensures))
+    (function-product S _ function (ap meaning-of (sym (after-function .enum-told2 .given .1)) ∙ after-function .before .before .classify .ensures))
     (place-second S of-app _ (ap (λ k. 1 + k) (function .read))))
 
 add-first : (t : ℕ) → application-lts.Need-add-first (application-claims t) (application-at t) application.Post
-add-first t c = record { fits = omega (arith, reach t (c .before .before .before .before .before .before .before .before .before), calls t c _ _ _ (c .before .before .before .before .before .before .before .before .before .before .before .before .before .before .before .before .before .before .before .before .before .before .before .before .before .pre .1 .3) .long) }
+add-first t c =
+    let after-function = c .before .before .before .before .before .before .before .before .before in
+    record { fits = omega (arith, reach t after-function, calls t c _ _ _ (after-function .before .before .before .before .before .before .before .before .before .before .before .before .before .before .before .before .pre .1 .3) .long) }
 
 mul-span : (t : ℕ) → application-lts.Need-mul-span (application-claims t) (application-at t) application.Post
-mul-span t c = record { fits = omega (arith, reach t (c .before .before .before .before .before .before .before .before .before), calls t c _ _ _ (c .before .before .before .before .before .before .before .before .before .before .before .before .before .before .before .before .before .before .before .before .before .before .before .before .before .pre .1 .3) .long) }
+mul-span t c =
+    let after-function = c .before .before .before .before .before .before .before .before .before in
+    record { fits = omega (arith, reach t after-function, calls t c _ _ _ (after-function .before .before .before .before .before .before .before .before .before .before .before .before .before .before .before .before .pre .1 .3) .long) }
 
 sub-span : (t : ℕ) → application-lts.Need-sub-span (application-claims t) (application-at t) application.Post
 sub-span t c = omega (arith, calls t c _ _ _ (c .before .before .before .before .before .before .before .before .before .before .before .before .before .before .before .before .before .before .before .before .before .before .before .before .before .pre .1 .3) .long)
@@ -223,19 +173,22 @@ same-length-4 t c = search needs
 
 returns-4 : (t : ℕ) → application-lts.Need-returns-4 (application-claims t) (application-at t) application.Post
 returns-4 t c Γ f u S =
-    let C = calls t (c .before .before .before .before .before) Γ f u S in
+    let after-span = c .before .before in
+    let C = calls t (after-span .before .before .before) Γ f u S in
     turned
     (wrong _ Γ _ f u (C .function) (C .argument) λ x.
-    c .before .if1 .taken (C .own-long ∙ ap size x ∙ sym (c .before .before .span .ensures .0 ∙ domain-span C)))
+    c .before .if1 .taken (C .own-long ∙ ap size x ∙ sym (domain-long t after-span Γ f u S)))
     (c .refused2 .ensures)
 
 same-requires : (t : ℕ) → application-lts.Need-same-requires (application-claims t) (application-at t) application.Post
 same-requires t c κs =
-    let C = calls t (c .before .before .before .before .before) _ _ _ (c .before .before .before .before .before .before .before .before .before .before .before .before .before .before .before .before .before .before .before .before .before .before .before .before .before .before .before .before .before .before .pre .1 .3) in
-    let x = c .before .before .span .ensures .0 ∙ domain-span C in
-    let room = room-two (c .before .before .before .before .before .before .before .before .before .before .before .before .before .before .before .before .before .before .before .before .before .before .before .before .before .before .before .before .before .before .pre .1 .4) in
-    let l = long t (c .before .before .before .before .before) in (
-      omega (arith, C .long, C .fits, x, room, l),
+    let after-span = c .before .before in
+    let after-argument = after-span .before .before .before in
+    let P = after-argument .before .before .before .before .before .before .before .before .before .before .before .before .before .before .before .before .before .before .before .before .before .before .before .before .before .pre .1 in
+    let C = calls t after-argument _ _ _ (P .3) in
+    let room = room-two (P .4) in
+    let l = long t after-argument in (
+      omega (arith, C .long, C .fits, domain-long t after-span _ _ _ (P .3), room, l),
       omega (arith, C .own-fits, C .fits, c .before .if1 .left, room, l),
     )
 
@@ -247,26 +200,28 @@ same-length-5 t c = search needs
 
 returns-5 : (t : ℕ) → application-lts.Need-returns-5 (application-claims t) (application-at t) application.Post
 returns-5 t c Γ f u S =
-    let C = calls t (c .before .before .before .before .before .before .before .before) Γ f u S in
     let same = c .before .before .same in
-    let domain = c .before .before .before .before .before .span .ensures .0 ∙ domain-span C in
+    let after-span = c .before .before .before .before .before in
+    let C = calls t (after-span .before .before .before) Γ f u S in
     turned
     (wrong _ Γ _ f u (C .function) (C .argument) λ x.
-    let y = told-same C domain (same .result) (c .before .before .before .before .if1 .left) (same .ensures) x in
+    let y = told-same C (domain-long t after-span Γ f u S) (same .result) (c .before .before .before .before .if1 .left) (same .ensures) x in
     let z : _≡_ {A = ℕ} 0 1 = cc (y, not-true (same .result) (c .before .if2 .taken)) in
     absurd (omega arith))
     (c .refused3 .ensures)
 
 add-to : (t : ℕ) → application-lts.Need-add-to (application-claims t) (application-at t) application.Post
 add-to t c =
-    let S = c .before .before .before .before .before .before .before .before .before .before .before .before .before .before .before .before .before .before .before .before .before .before .before .before .before .before .before .before .before .before .before .before .pre .1 .3 in
-    let C = calls t (c .before .before .before .before .before .before .before) _ _ _ S in
+    let after-argument = c .before .before .before .before .before .before .before in
+    let S = after-argument .before .before .before .before .before .before .before .before .before .before .before .before .before .before .before .before .before .before .before .before .before .before .before .before .before .pre .1 .3 in
+    let C = calls t after-argument _ _ _ S in
     record { fits = omega (arith, subject-parts S of-app, C .read, C .further, S .within, S .short) }
 
 mul-put-in : (t : ℕ) → application-lts.Need-mul-put-in (application-claims t) (application-at t) application.Post
 mul-put-in t c =
-    let S = c .before .before .before .before .before .before .before .before .before .before .before .before .before .before .before .before .before .before .before .before .before .before .before .before .before .before .before .before .before .before .before .before .pre .1 .3 in
-    let C = calls t (c .before .before .before .before .before .before .before) _ _ _ S in
+    let after-argument = c .before .before .before .before .before .before .before in
+    let S = after-argument .before .before .before .before .before .before .before .before .before .before .before .before .before .before .before .before .before .before .before .before .before .before .before .before .before .pre .1 .3 in
+    let C = calls t after-argument _ _ _ S in
     record { fits = omega (arith, subject-parts S of-app, C .read, S .within, S .short) }
 
 sub-put-in : (t : ℕ) → application-lts.Need-sub-put-in (application-claims t) (application-at t) application.Post
@@ -277,39 +232,46 @@ part-put-in-start t c = search needs
 
 part-put-in-end : (t : ℕ) → application-lts.Need-part-put-in-end (application-claims t) (application-at t) application.Post
 part-put-in-end t c =
-    let S = c .before .before .before .before .before .before .before .before .before .before .before .before .before .before .before .before .before .before .before .before .before .before .before .before .before .before .before .before .before .before .before .before .pre .1 .3 in
-    let C = calls t (c .before .before .before .before .before .before .before) _ _ _ S in
+    let after-argument = c .before .before .before .before .before .before .before in
+    let S = after-argument .before .before .before .before .before .before .before .before .before .before .before .before .before .before .before .before .before .before .before .before .before .before .before .before .before .pre .1 .3 in
+    let C = calls t after-argument _ _ _ S in
     omega (arith, subject-parts S of-app, C .read, C .further)
 
 add-put-in : (t : ℕ) → application-lts.Need-add-put-in (application-claims t) (application-at t) application.Post
 add-put-in t c =
-    let C = calls t (c .before .before .before .before .before .before .before .before .before) _ _ _ (c .before .before .before .before .before .before .before .before .before .before .before .before .before .before .before .before .before .before .before .before .before .before .before .before .before .before .before .before .before .before .before .before .before .before .pre .1 .3) in
-    record { fits = omega (arith, C .long, c .before .before .before .before .before .before .span .ensures .0 ∙ domain-span C, reach t (c .before .before .before .before .before .before .before .before .before .before .before .before .before .before .before .before .before .before)) }
+    let after-span = c .before .before .before .before .before .before in
+    let after-argument = after-span .before .before .before in
+    let S = after-argument .before .before .before .before .before .before .before .before .before .before .before .before .before .before .before .before .before .before .before .before .before .before .before .before .before .pre .1 .3 in
+    let C = calls t after-argument _ _ _ S in
+    record { fits = omega (arith, C .long, domain-long t after-span _ _ _ S, reach t (after-argument .before .before .before .before .before .before .before .before .before)) }
 
 sub-put-in-2 : (t : ℕ) → application-lts.Need-sub-put-in-2 (application-claims t) (application-at t) application.Post
-sub-put-in-2 t c = omega (arith, calls t (c .before .before .before .before .before .before .before .before .before) _ _ _ (c .before .before .before .before .before .before .before .before .before .before .before .before .before .before .before .before .before .before .before .before .before .before .before .before .before .before .before .before .before .before .before .before .before .before .pre .1 .3) .long)
+sub-put-in-2 t c =
+    let after-argument = c .before .before .before .before .before .before .before .before .before in
+    let S = after-argument .before .before .before .before .before .before .before .before .before .before .before .before .before .before .before .before .before .before .before .before .before .before .before .before .before .pre .1 .3 in
+    let C = calls t after-argument _ _ _ S in
+    omega (arith, C .long)
 
 sub-put-in-3 : (t : ℕ) → application-lts.Need-sub-put-in-3 (application-claims t) (application-at t) application.Post
 sub-put-in-3 t c = search needs
 
 put-in-requires : (t : ℕ) → application-lts.Need-put-in-requires (application-claims t) (application-at t) application.Post
 put-in-requires t c κs =
-    let start = c .before .before .before .before .before .before .before .before .before .before .before .before .before .before .before .before .before .before .before .before .before .before .before .before .before .before .before .before .before .before .before .before .before .before in
+    let after-span = c .before .before .before .before .before .before in
+    let after-argument = after-span .before .before .before in
+    let after-function = after-argument .before .before .before .before .before .before .before .before .before in
+    let start = after-function .before .before .before .before .before .before .before .before .before .before .before .before .before .before .before .before in
     let S = start .pre .1 .3 in
     let R = start .pre .1 .4 in
-    let function = typed (c .before .before .before .before .before .before .before .before .before .before .before .before .before .before .before .before .before .before .before .before .before .before .before .before .before .before .before .infer .ensures _ _ (first S of-app)) (c .before .before .before .before .before .before .before .before .before .before .before .before .before .before .before .before .before .before .before .before .before .before .before .function .given .1) in
-    let C = calls t (c .before .before .before .before .before .before .before .before .before) _ _ _ S in
-    let x = c .before .before .before .before .before .before .span .ensures .0 ∙ domain-span C in
+    let function = typed (after-function .before .before .before .before .before .before .before .before .before .infer .ensures _ _ (first S of-app)) (after-function .before .before .before .before .before .function .given .1) in
+    let C = calls t after-argument _ _ _ S in
+    let x = domain-long t after-span _ _ _ S in
     let room = room-two R in
-    let l = long t (c .before .before .before .before .before .before .before .before .before) in (
+    let l = long t after-argument in (
       omega (arith, room, l),
       omega (arith, C .long, C .fits, x, room, l),
       codomain-codes C x S (R .allowed),
-      subject-codes
-          (argument-subject S _ function)
-          _
-          (argument-words S _ function (C .further))
-          (eqb-true (start .args .depth) 0),
+      subject-codes (argument-subject S _ function) _ (argument-words S _ function (C .further)) (eqb-true (start .args .depth) 0),
     )
 
 enum-told-4 : (t : ℕ) → application-lts.Need-enum-told-4 (application-claims t) (application-at t) application.Post
@@ -321,37 +283,19 @@ refused-requires-4 t c = search needs
 enum-known-end : (t : ℕ) → application-lts.Need-enum-known-end (application-claims t) (application-at t) application.Post
 enum-known-end t c = search needs
 
--- What is put in and written.
-puts : (t : ℕ) (c : application-lts.After-put-in (application-claims t) (application-at t) application.Post) (Γ : Context) (f u : Term)
-    → (S : Subject Γ (app f u) (c .before .before .before .before .before .before .before .before .before .before .before .before .before .before .before .before .before .before .before .before .before .before .before .before .before .before .before .before .before .before .before .before .before .before .before .args .term .now) (c .before .before .before .before .before .before .before .before .before .before .before .before .before .before .before .before .before .before .before .before .before .before .before .before .before .before .before .before .before .before .before .before .before .before .before .args .sub .now) (c .before .before .before .before .before .before .before .before .before .before .before .before .before .before .before .before .before .before .before .before .before .before .before .before .before .before .before .before .before .before .before .before .before .before .before .args .context .now) (c .before .before .before .before .before .before .before .before .before .before .before .before .before .before .before .before .before .before .before .before .before .before .before .before .before .before .before .before .before .before .before .before .before .before .before .args .depth))
-    → Puts
-    (substitute 0 u (calls t (c .before .before .before .before .before .before .before .before .before .before) Γ f u S .codomain))
-    (c .before .before .before .before .before .before .before .before .before .before .before .before .before .before .before .infer2 .last .1 .1 .1 .1 .0)
-    (c .before .before .before .before .before .before .before .before .before .before .before .before .before .before .before .before .before .before .before .before .before .before .before .before .before .before .before .before .before .before .before .before .before .before .before .args .top)
-    (c .before .before .before .before .before .before .before .before .before .before .before .before .before .before .before .before .before .before .before .before .before .before .before .before .before .before .before .before .before .before .before .before .before .before .before .args .limit)
-    (c .put-in .result)
-    (c .put-in .last .1 .1 .0)
-puts t c Γ f u S =
-    let function = typed (c .before .before .before .before .before .before .before .before .before .before .before .before .before .before .before .before .before .before .before .before .before .before .before .before .before .before .before .before .infer .ensures Γ f (first S of-app)) (c .before .before .before .before .before .before .before .before .before .before .before .before .before .before .before .before .before .before .before .before .before .before .before .before .function .given .1) in
-    let C = calls t (c .before .before .before .before .before .before .before .before .before .before) Γ f u S in
-    c .put-in .ensures
-    (C .codomain)
-    u
-    (codomain-words C (c .before .before .before .before .before .before .before .span .ensures .0 ∙ domain-span C))
-    (argument-words S _ function (C .further))
-
 sub-t59 : (t : ℕ) → application-lts.Need-sub-t59 (application-claims t) (application-at t) application.Post
-sub-t59 t c = omega (arith, put (puts t (c .before .before .before .before .before) _ _ _ (c .before .before .before .before .before .before .before .before .before .before .before .before .before .before .before .before .before .before .before .before .before .before .before .before .before .before .before .before .before .before .before .before .before .before .before .before .before .before .before .before .pre .1 .3)) (c .before .end .given .1) .ends)
+sub-t59 t c =
+    let after-put-in = c .before .before .before .before .before in
+    let S = after-put-in .before .before .before .before .before .before .before .before .before .before .before .before .before .before .before .before .before .before .before .before .before .before .before .before .before .before .before .before .before .before .before .before .before .before .before .pre .1 .3 in
+    omega (arith, put (puts t after-put-in _ _ _ S) (c .before .end .given .1) .ends)
 
 same-length-6 : (t : ℕ) → application-lts.Need-same-length-6 (application-claims t) (application-at t) application.Post
 same-length-6 t c = c .before .before .before .before .before .put-in .kept .1 .1 .0 ∙ long t (c .before .before .before .before .before .before .before .before .before .before .before .before .before .before .before)
 
 returns-6 : (t : ℕ) → application-lts.Need-returns-6 (application-claims t) (application-at t) application.Post
 returns-6 t c Γ f u S =
-    let C = calls t (c .before .before .before .before .before .before .before .before .before .before .before .before .before .before .before) Γ f u S in
     turned
-    (right _ Γ _ f u (C .function) (C .argument) (same-type C (c .before .before .before .before .before .before .before .before .before .before .before .before .span .ensures .0 ∙ domain-span C) (c .before .before .before .before .before .before .before .before .before .same .result) (c .before .before .before .before .before .before .before .before .before .before .before .if1 .left) (c .before .before .before .before .before .before .before .before .before .same .ensures) (not-false _ (c .before .before .before .before .before .before .before .before .if2 .left)))
-    ∙ over _ _ (put-over (puts t (c .before .before .before .before .before) Γ f u S) (c .before .enum-told4 .given .1)))
+    (measured t (c .before .before .before .before .before .before .before .before) Γ f u S ∙ over _ _ (put-over (puts t (c .before .before .before .before .before) Γ f u S) (c .before .enum-told4 .given .1)))
     (c .refused4 .ensures)
 
 same-length-7 : (t : ℕ) → application-lts.Need-same-length-7 (application-claims t) (application-at t) application.Post
@@ -359,18 +303,18 @@ same-length-7 t c = c .before .before .before .before .before .put-in .kept .1 .
 
 returns-7 : (t : ℕ) → application-lts.Need-returns-7 (application-claims t) (application-at t) application.Post
 returns-7 t c Γ f u S =
-    let C = calls t (c .before .before .before .before .before .before .before .before .before .before .before .before .before .before .before) Γ f u S in
+    let after-argument = c .before .before .before .before .before .before .before .before .before .before .before .before .before .before .before in
+    let C = calls t after-argument Γ f u S in
     let P = put (puts t (c .before .before .before .before .before) Γ f u S) (c .before .end .given .1) in
     found
-    (right _ Γ _ f u (C .function) (C .argument) (same-type C (c .before .before .before .before .before .before .before .before .before .before .before .before .span .ensures .0 ∙ domain-span C) (c .before .before .before .before .before .before .before .before .before .same .result) (c .before .before .before .before .before .before .before .before .before .before .before .if1 .left) (c .before .before .before .before .before .before .before .before .before .same .ensures) (not-false _ (c .before .before .before .before .before .before .before .before .if2 .left)))
-    ∙ fitting _ _ (P .fits))
+    (measured t (c .before .before .before .before .before .before .before .before) Γ f u S ∙ fitting _ _ (P .fits))
     (written-type
     _
     _
     (unfold size in omega (arith, C .read, C .further))
     (omega (arith, P .ends))
     (P .stored)
-    (omega (arith, P .fits, room-two (c .before .before .before .before .before .before .before .before .before .before .before .before .before .before .before .before .before .before .before .before .before .before .before .before .before .before .before .before .before .before .before .before .before .before .before .before .before .before .before .before .pre .1 .4), long t (c .before .before .before .before .before .before .before .before .before .before .before .before .before .before .before)))
+    (omega (arith, P .fits, room-two (after-argument .before .before .before .before .before .before .before .before .before .before .before .before .before .before .before .before .before .before .before .before .before .before .before .before .before .pre .1 .4), long t after-argument))
     (C .front)
     (C .context)
     (C .wide))

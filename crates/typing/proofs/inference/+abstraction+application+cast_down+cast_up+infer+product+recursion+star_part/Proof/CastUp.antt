@@ -10,7 +10,8 @@ use lib.Dec.{eqb}
 use Rattle.calculus.specs.Term.{size}
 use Rattle.calculus.specs.Step.{step}
 use Rattle.calculus.proofs.Testing.{fitting, over}
-use Rattle.typing.proofs.Subjects.{of-castup, two-levels, behind-length, subject-some, subject-parts, first, place-first}
+use Rattle.typing.proofs.Nodes.{of-castup, two-levels}
+use Rattle.typing.proofs.Subjects.{behind-length, subject-some, subject-parts, first, place-first}
 use Rattle.typing.proofs.Rooms.{roomy-part, subject-codes}
 use Rattle.typing.proofs.Passing.{found, passed, turned, typed}
 use Rattle.typing.proofs.Parts.{annotation-found, second-place, beside}

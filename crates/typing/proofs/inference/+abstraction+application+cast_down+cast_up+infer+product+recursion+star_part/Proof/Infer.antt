@@ -1,6 +1,6 @@
 -- `infer` meets its contract: the first word says which node it is, so that the node's own function is asked for what the contract
 -- says; star and variables are typed here.
-use Prim.Native.Nat.{ℕ, _+_, _-_}
+use Prim.Native.Nat.{ℕ, _-_}
 use mathlib.Core.Path.{_≡_, refl, sym, ap, _∙_}
 use native.Mathlib.Omega.{arith}
 use lib.ListN.{getD}

@@ -15,7 +15,8 @@ use Rattle.typing.specs.Inference.{star-typed}
 use Rattle.typing.proofs.Parts.{annotation-found, second-place, reaches, below, below-context, below-wide}
 use Rattle.typing.proofs.Passing.{passed, typed, found, lying, star-first, starred, starred-type}
 use Rattle.typing.proofs.Rooms.{subject-shallow, roomy-part}
-use Rattle.typing.proofs.Subjects.{of-pi, first, subject-some, subject-parts, two-levels, behind-length, place-first}
+use Rattle.typing.proofs.Nodes.{of-pi, two-levels}
+use Rattle.typing.proofs.Subjects.{first, subject-some, subject-parts, behind-length, place-first}
 use Rattle.typing.proofs.inference.product.Reads as product
 use Rattle.typing.proofs.inference.+abstraction+application+cast_down+cast_up+infer+product+recursion+star_part.Lts-product as product-lts
 use Rattle.typing.proofs.inference.+abstraction+application+cast_down+cast_up+infer+product+recursion+star_part.Proof.Measures.{product-at, product-claims}

@@ -12,7 +12,8 @@ use lib.ListN.{take}
 use Rattle.calculus.specs.Term.{size, raise}
 use Rattle.calculus.specs.Words.{words}
 use Rattle.reduction.proofs.Stores.{take-sets}
-use Rattle.typing.proofs.Subjects.{of-mu, two-levels, behind-length, subject-some, subject-parts, first, place-first}
+use Rattle.typing.proofs.Nodes.{of-mu, two-levels}
+use Rattle.typing.proofs.Subjects.{behind-length, subject-some, subject-parts, first, place-first}
 use Rattle.typing.proofs.Rooms.{roomy-part, subject-shallow, subject-codes}
 use Rattle.typing.proofs.Passing.{found, passed, turned, typed}
 use Rattle.typing.proofs.Parts.{annotation-found, second-place, below}

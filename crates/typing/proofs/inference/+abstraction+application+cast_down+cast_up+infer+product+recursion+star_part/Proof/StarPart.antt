@@ -8,7 +8,7 @@ use lib.ListN.{getD}
 use borrow.Author.Needs.{needs}
 use Rattle.calculus.specs.Term.{Term, star, size}
 use Rattle.calculus.specs.Answer as reason
-use Rattle.calculus.specs.Answer.{ok, refused, _>>=_, _>>_, require}
+use Rattle.calculus.specs.Answer.{refused, _>>=_, _>>_, require}
 use Rattle.calculus.specs.Words.{words}
 use Rattle.calculus.specs.Reading.{meaning, a-star}
 use Rattle.calculus.specs.Rules.{Context}

@@ -10,7 +10,8 @@ use Rattle.calculus.specs.Term.{Term, lam}
 use Rattle.calculus.specs.Words.{words, longest}
 use Rattle.calculus.specs.Rules.{Context}
 use Rattle.typing.specs.Inference.{Subject}
-use Rattle.typing.proofs.Subjects.{of-lam, first}
+use Rattle.typing.proofs.Nodes.{of-lam}
+use Rattle.typing.proofs.Subjects.{first}
 use Rattle.typing.proofs.Rooms.{room-two}
 use Rattle.typing.proofs.Passing.{typed}
 use Rattle.typing.proofs.Parts.{Both, annotation-words, reaches, below, both-below}

@@ -11,7 +11,8 @@ use Rattle.calculus.specs.Words.{words, longest}
 use Rattle.calculus.specs.Rules.{Context}
 use Rattle.calculus.specs.Step.{step}
 use Rattle.typing.specs.Inference.{Subject}
-use Rattle.typing.proofs.Subjects.{of-castup, first}
+use Rattle.typing.proofs.Nodes.{of-castup}
+use Rattle.typing.proofs.Subjects.{first}
 use Rattle.typing.proofs.Rooms.{room-two}
 use Rattle.typing.proofs.Passing.{typed}
 use Rattle.typing.proofs.Parts.{Both, annotation-words, reaches, beside, both-beside}

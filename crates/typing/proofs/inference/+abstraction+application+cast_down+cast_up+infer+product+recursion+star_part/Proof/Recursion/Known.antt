@@ -15,7 +15,8 @@ use Rattle.calculus.specs.Rules.{Context}
 use Rattle.reduction.specs.Rewriting.{raised}
 use Rattle.reduction.proofs.Rewritten.{raised-words}
 use Rattle.typing.specs.Inference.{Subject}
-use Rattle.typing.proofs.Subjects.{of-mu, first}
+use Rattle.typing.proofs.Nodes.{of-mu}
+use Rattle.typing.proofs.Subjects.{first}
 use Rattle.typing.proofs.Rooms.{room-two}
 use Rattle.typing.proofs.Passing.{typed}
 use Rattle.typing.proofs.Parts.{Both, annotation-words, reaches, below, both-below}
