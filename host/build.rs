@@ -2,9 +2,9 @@
 use std::path::PathBuf;
 
 fn main() {
-    let folder = std::env::var_os("FEGUAVY_ARCHIVE").map(PathBuf::from).unwrap_or_else(|| {
-        PathBuf::from(std::env::var_os("CARGO_MANIFEST_DIR").unwrap()).join("../target/staticlib")
-    });
+    let folder = std::env::var_os("FEGUAVY_ARCHIVE")
+        .map(PathBuf::from)
+        .unwrap_or_else(|| PathBuf::from(std::env::var_os("CARGO_MANIFEST_DIR").unwrap()).join("../target/staticlib"));
     println!("cargo:rustc-link-search=native={}", folder.display());
     println!("cargo:rustc-link-lib=static=feguavy");
     println!("cargo:rerun-if-changed={}", folder.join("libfeguavy.a").display());

@@ -13,6 +13,8 @@
 //! ```
 
 mod raw;
+#[doc(hidden)]
+pub mod shapes;
 
 use std::fmt;
 

@@ -48,23 +48,12 @@ extern "C" {
 // Each call lends slices that Rust keeps apart and alive for its length, and the functions keep nothing.
 
 pub fn check(term: &[u16], limit: u32, work: &mut [u16], output: &mut [u16]) -> CheckedNumbers {
-    unsafe {
-        feguavy_check(term.as_ptr(), term.len(), limit, work.as_mut_ptr(), work.len(), output.as_mut_ptr(), output.len())
-    }
+    unsafe { feguavy_check(term.as_ptr(), term.len(), limit, work.as_mut_ptr(), work.len(), output.as_mut_ptr(), output.len()) }
 }
 
 pub fn run(term: &[u16], budget: u32, work: &mut [u16], state: &mut [u16], allowance: u32) -> RanNumbers {
     unsafe {
-        feguavy_run(
-            term.as_ptr(),
-            term.len(),
-            budget,
-            work.as_mut_ptr(),
-            work.len(),
-            state.as_mut_ptr(),
-            state.len(),
-            allowance,
-        )
+        feguavy_run(term.as_ptr(), term.len(), budget, work.as_mut_ptr(), work.len(), state.as_mut_ptr(), state.len(), allowance)
     }
 }
 

@@ -1,5 +1,6 @@
 //! The library's own stack stays under 1 MiB: it is painted below a call and looked at afterwards.
 
+use feguavy::shapes::redex;
 use feguavy::{Buffers, LARGEST_LIMIT};
 use std::hint::black_box;
 
@@ -70,6 +71,11 @@ fn under_one_mebibyte() {
         // the state put into a body once more, at full depth
         let applied = [&[2, 4, 0][..], &[5, 0, 17], &term[..]].concat();
         most = most.max(stack_of(|b| _ = b.run(&applied, 2000, 2000)));
+    }
+    // substitution into bodies nested some 475 levels deep
+    for kind in ["left", "right"] {
+        let (term, steps) = redex(kind, 951);
+        most = most.max(stack_of(|b| assert_eq!(b.run(&term, steps + 1, 2000).0.answer.unwrap().steps, steps + 1)));
     }
     println!("at most {most} bytes of stack");
     assert!(most < 1 << 20);

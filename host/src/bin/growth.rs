@@ -1,32 +1,14 @@
 //! One call of a size, for counting instructions (scripts/growth): `growth KIND SIZE`. What is counted is the call alone.
 //!
 //!     reading WORDS            a part lookup that finds nothing
-//!     left|right|balanced WORDS   one step that substitutes into a body of that shape
-//!     rest WORDS               the same run with no step
+//!     left|right|balanced WORDS   a run whose last step substitutes into a body of that shape
+//!     left-before, .. WORDS    the same run without that step
 //!     limit L                  a check of one term at that limit
 //!     term WORDS               a check of a term of that length at limit 1,024
 //!     steps WORDS, first WORDS    1,001 steps of a state of that length, and one of them
 
+use feguavy::shapes::{redex, shape};
 use std::hint::black_box;
-
-/// A term of about that many words, in which `node` has one part inside the other.
-fn shape(node: u16, words: usize, kind: &str, leaf: u16) -> Vec<u16> {
-    let inner = (words - 1) / 2;
-    match kind {
-        "left" => std::iter::repeat(node).take(inner).chain(std::iter::repeat(leaf).take(inner + 1)).collect(),
-        "right" => std::iter::repeat([node, leaf]).take(inner).flatten().chain([leaf]).collect(),
-        _ if words < 3 => vec![leaf],
-        _ => {
-            let half = (words - 1) / 2;
-            [&[node][..], &shape(node, half, kind, leaf), &shape(node, half, kind, leaf)].concat()
-        }
-    }
-}
-
-/// An abstraction over such a body, applied to star.
-fn redex(kind: &str, words: usize) -> Vec<u16> {
-    [&[2, 4, 0][..], &shape(2, words - 4, kind, 16), &[0]].concat()
-}
 
 /// A state that steps to itself: a recursion in whose body the variable stands first.
 fn looping(words: usize) -> Vec<u16> {
@@ -43,8 +25,14 @@ fn main() {
     };
     match kind.as_str() {
         "reading" => _ = black_box(feguavy::part(black_box(&shape(5, size, "balanced", 0)), 3).len()),
-        "left" | "right" | "balanced" => run(&redex(&kind, size), 1),
-        "rest" => run(&redex("balanced", size), 0),
+        "left" | "right" | "balanced" => {
+            let (term, steps) = redex(&kind, size);
+            run(&term, steps + 1)
+        }
+        "left-before" | "right-before" | "balanced-before" => {
+            let (term, steps) = redex(kind.trim_end_matches("-before"), size);
+            run(&term, steps)
+        }
         "steps" => run(&looping(size), 1001),
         "first" => run(&looping(size), 1),
         "limit" => _ = black_box(feguavy::check(black_box(&shape(5, 255, "balanced", 0)), size as u32, &mut work, &mut result)),
