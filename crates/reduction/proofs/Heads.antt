@@ -22,10 +22,10 @@ use Rattle.reduction.proofs.WordKinds.{kind, from-seven, framing, no-fr
 -- For each kind of word the redex: at place 0, and behind frames, where `n` is the place of the word, `b` that of the word before it
 -- and `p` the kind of that.
 abbrev pub outermost : List Redex
-outermost = Value ∷ Stuck ∷ Stuck ∷ Value ∷ Value ∷ Value ∷ Unfold 0 ∷ Stuck ∷ Stuck ∷ []
+outermost = Value ∷ Stuck ∷ Stuck ∷ Value ∷ Value ∷ Unfold 0 ∷ Value ∷ Stuck ∷ Stuck ∷ []
 
 abbrev pub framed : ℕ → ℕ → ℕ → List Redex
-framed n b p = Stuck ∷ Stuck ∷ Stuck ∷ cond (eqb p 1) (Cancel b) Stuck ∷ cond (eqb p 2) (Beta b) Stuck ∷ Stuck ∷ Unfold n ∷ Stuck ∷ Stuck ∷ []
+framed n b p = Stuck ∷ Stuck ∷ Stuck ∷ cond (eqb p 1) (Cancel b) Stuck ∷ cond (eqb p 2) (Beta b) Stuck ∷ Unfold n ∷ Stuck ∷ Stuck ∷ Stuck ∷ []
 
 abbrev row : ℕ → ℕ → List Redex
 row zero p = outermost

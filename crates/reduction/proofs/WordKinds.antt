@@ -1,5 +1,5 @@
 -- The kinds of words, one for each variant of the enum that a word is classified by, numbered as the variants are. Words below 7 have
--- their own number; from 7 on a word is a variable or means nothing.
+-- a kind of their own; from 7 on a word is a variable or means nothing.
 use Prim.Native.Nat.{ℕ, zero, suc, _-_, _≤_}
 use mathlib.Core.Bool.{Bool, true, false, cond, _&&_}
 use mathlib.Core.List.{List, [], _∷_}
@@ -22,8 +22,8 @@ index a-castdown = 1
 index an-app = 2
 index a-castup = 3
 index a-lam = 4
-index a-pi = 5
-index a-mu = 6
+index a-pi = 6
+index a-mu = 5
 index (a-variable i) = 7
 index nothing = 8
 

@@ -67,10 +67,11 @@ fn rewrite_variable(
             if depth < index {
                 return put(16 + index - 1, out, at);
             }
-            if closed {
+            let by = if closed { 0 } else { depth };
+            if by == 0 {
                 return copy(argument, out, at);
             }
-            rewrite_whole(argument, Change::Raise(depth), argument, out, at)
+            rewrite_whole(argument, Change::Raise(by), argument, out, at)
         }
     }
 }

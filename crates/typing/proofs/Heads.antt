@@ -101,8 +101,8 @@ tag a-castdown = 1
 tag an-app = 2
 tag a-castup = 3
 tag a-lam = 4
-tag a-pi = 5
-tag a-mu = 6
+tag a-pi = 6
+tag a-mu = 5
 tag (a-variable i) = 7
 tag nothing = 8
 
@@ -128,6 +128,6 @@ pub not-star : (r : Meaning) → OneOf (1 ∷ 2 ∷ 3 ∷ 4 ∷ 5 ∷ 6 ∷ 7 �
 unfolding tag
 not-star r h = other (1 ∷ 2 ∷ 3 ∷ 4 ∷ 5 ∷ 6 ∷ 7 ∷ 8 ∷ []) a-star r tt h
 
-pub not-product : (r : Meaning) → OneOf (0 ∷ 1 ∷ 2 ∷ 3 ∷ 4 ∷ 6 ∷ 7 ∷ 8 ∷ []) (tagOf (declared enum.enum) r) → meaning-of r ≢ a-pi
+pub not-product : (r : Meaning) → OneOf (0 ∷ 1 ∷ 2 ∷ 3 ∷ 4 ∷ 5 ∷ 7 ∷ 8 ∷ []) (tagOf (declared enum.enum) r) → meaning-of r ≢ a-pi
 unfolding tag
-not-product r h = other (0 ∷ 1 ∷ 2 ∷ 3 ∷ 4 ∷ 6 ∷ 7 ∷ 8 ∷ []) a-pi r tt h
+not-product r h = other (0 ∷ 1 ∷ 2 ∷ 3 ∷ 4 ∷ 5 ∷ 7 ∷ 8 ∷ []) a-pi r tt h

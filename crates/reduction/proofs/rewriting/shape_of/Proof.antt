@@ -46,7 +46,7 @@ returns-5 : tie.Need-returns-5
 returns-5 c =
     let a = c .before .before in
     let told = by-tag (c .before .classify .result) (a .args .word) (a .pre) (c .before .classify .ensures) in
-    ⊎-elim (told 4) (⊎-elim (told 5) (told 6)) (c .match .keys5)
+    ⊎-elim (told 4) (⊎-elim (told 6) (told 5)) (c .match .keys5)
 
 pub shape-of-spec : {M : Type 1} → statement M
 shape-of-spec =

@@ -34,7 +34,7 @@ returns c =
     let m = c .before .before .classify in
     found
     (m .result)
-    (0 ∷ 5 ∷ [])
+    (0 ∷ 6 ∷ [])
     (c .before .before .before .before .leading .ensures)
     (m .ensures)
     (c .before .match .keys2)
@@ -146,7 +146,7 @@ returns-6 c =
     let m = c .before .before .classify in
     found
     (m .result)
-    (6 ∷ [])
+    (5 ∷ [])
     (c .before .before .before .before .leading .ensures)
     (m .ensures)
     (c .before .match .keys1)
@@ -158,7 +158,7 @@ returns-7 c =
     let m = c .before .before .classify in
     found
     (m .result)
-    (0 ∷ 5 ∷ [])
+    (0 ∷ 6 ∷ [])
     (c .before .before .before .before .leading .ensures)
     (m .ensures)
     (c .before .match .keys2)

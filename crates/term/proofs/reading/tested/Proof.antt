@@ -118,7 +118,7 @@ returns-7 c p =
     _
     p
     (sym (known .ensures))
-    (arm (0 ∷ 1 ∷ []) (4 ∷ 5 ∷ 6 ∷ []) (λ _. (lit< tt, refl), (λ _. (lit< tt, refl), (λ _. (lit< tt, refl), tt))) (known .result) _ (something (known .result) (c .before .before .match .keys2)) (c .match2 .keys4))
+    (arm (0 ∷ 1 ∷ []) (4 ∷ 6 ∷ 5 ∷ []) (λ _. (lit< tt, refl), (λ _. (lit< tt, refl), (λ _. (lit< tt, refl), tt))) (known .result) _ (something (known .result) (c .before .before .match .keys2)) (c .match2 .keys4))
     (pos-of-ne-zero (c .before .if1 .left))
 
 returns-8 : tie.Need-returns-8

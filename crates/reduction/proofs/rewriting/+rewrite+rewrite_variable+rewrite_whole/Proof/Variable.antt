@@ -1,12 +1,14 @@
--- `rewrite_variable` meets its contract: what each arm writes is what stands for the variable. The argument is put in as it stands where
--- raising does not change it, and otherwise raised, which puts nothing in.
-use Prim.Native.Nat.{ℕ, _+_}
-use mathlib.Core.Path.{_≡_, ap, subst}
+-- `rewrite_variable` meets its contract: what each arm writes is what stands for the variable. A closed argument is the same raised by
+-- 0 as by the binders around, and raising by 0 is copying.
+use Prim.Native.Nat.{ℕ, _+_, _≤_}
+use mathlib.Core.Logic.{⊎-elim}
+use mathlib.Core.Path.{_≡_, sym, ap, subst, _∙_}
 use native.Mathlib.Omega.{arith}
 use borrow.Author.Needs.{needs}
 use Rattle.reduction.specs.declared.rewriting.Change.the-variants as change
 use Rattle.reduction.specs.Rewriting.{Bounded, changed-word, raised}
 use Rattle.reduction.proofs.Changes.{unchanged, changed-raised, changed-lowered, changed-put}
+use Rattle.reduction.proofs.Tails.{raised-by-none}
 use Rattle.reduction.proofs.rewriting.rewrite_variable.Reads as reads
 use Rattle.reduction.proofs.rewriting.+rewrite+rewrite_variable+rewrite_whole.Lts-rewrite_variable as lts
 use Rattle.reduction.proofs.rewriting.+rewrite+rewrite_variable+rewrite_whole.Proof.Claims.{weight, rewrite-variable-at, rewrite-variable-claims}
@@ -27,6 +29,26 @@ module _ (t : ℕ) where
     bounded =
         let start = c .before .before .before .before .before .before .before in
         subst (λ x. Bounded x (start .args .argument .now)) (c .before .before .change2 .given .1) (start .pre .1 .3)
+
+  -- By how much the argument is raised there.
+  module _ (c : lts.Joined3 (rewrite-variable-claims t) (rewrite-variable-at t) reads.Post) where
+    put-in :
+        let a = c .before .before .before .before .before .before .before .before .args in
+        changed-word (a .change) (a .argument .now) (a .depth) (16 + a .index) ≡ raised (c .if3 .by) (a .argument .now)
+    unfolding Bounded
+    put-in =
+        let a = c .before .before .before .before .before .before .before .before .args in
+        let same = bounded (c .before) .3 in
+        outermost (c .before)
+        ∙ ⊎-elim
+        (λ w. same (w .0 .taken) (a .depth) ∙ sym (same (w .0 .taken) (c .if3 .by)))
+        (λ w. ap (λ n. raised n (a .argument .now)) (sym (w .1)))
+        (c .if3 .came)
+
+    small : c .if3 .by ≤ 2048
+    small =
+        let start = c .before .before .before .before .before .before .before .before in
+        ⊎-elim (λ w. let q = w .1 in omega arith) (λ w. let q = w .1 in omega (arith, start .pre .1 .2)) (c .if3 .came)
 
   add-put : lts.Need-add-put (rewrite-variable-claims t) (rewrite-variable-at t) reads.Post
   add-put c = search needs
@@ -94,17 +116,19 @@ module _ (t : ℕ) where
   unfolding Bounded
   returns-3 c =
       let here = c .before .before .before .before .before in
-      let depth = here .before .before .before .before .before .before .before .args .depth in
-      rw (outermost here, bounded here .3 (c .before .before .before .before .if3 .taken) depth) (c .before .before .copy .ensures)
+      let argument = here .before .before .before .before .before .before .before .before .args .argument .now in
+      rw
+      (put-in here, c .before .before .before .before .if4 .taken, raised-by-none argument (bounded (here .before) .2))
+      (c .before .before .copy .ensures)
 
   rewrite-whole-requires : lts.Need-rewrite-whole-requires (rewrite-variable-claims t) (rewrite-variable-at t) reads.Post
   unfolding Bounded
   rewrite-whole-requires c κs =
-      let here = c .before .before in
+      let here = c .before .before .before in
       let start = here .before .before .before .before .before .before .before in
       let length-counts = ap (λ x. weight x (start .args .argument .now)) (here .before .before .change2 .given .1) in
       let b = bounded here in
-      (omega (arith, start .pre .0, length-counts), (start .pre .1 .0, b .2, b .1, b .0, omega (arith, start .pre .1 .2)))
+      (omega (arith, start .pre .0, length-counts), (start .pre .1 .0, b .2, b .1, b .0, small (c .before .before)))
 
   same-length-4 : lts.Need-same-length-4 (rewrite-variable-claims t) (rewrite-variable-at t) reads.Post
   same-length-4 c = search needs
@@ -123,7 +147,7 @@ module _ (t : ℕ) where
 
   returns-5 : lts.Need-returns-5 (rewrite-variable-claims t) (rewrite-variable-at t) reads.Post
   unfolding raised changed-word
-  returns-5 c = rw (outermost (c .before .before .before .before .before)) (c .before .before .rewrite-whole .ensures)
+  returns-5 c = rw (put-in (c .before .before .before .before .before)) (c .before .before .rewrite-whole .ensures)
 
   pub closed : {M : Type 1} → lts.Closed (rewrite-variable-claims t) (rewrite-variable-at t) reads.Post M
   closed =
