@@ -1,26 +1,21 @@
 -- The one loop of reading: where it stands, and what a turn makes of that by what the word at hand is. The subterm at hand comes first
 -- of those that are pending; a refusal ends the reading, a leaf leaves it to the next one pending, and a node to its parts.
-use Prim.Native.Nat.{ℕ, zero, suc, _+_, _-_, _≤_, _<_}
+use Prim.Native.Nat.{ℕ, _+_, _-_, _≤_, _<_}
 use mathlib.Core.List.{List, [], _∷_}
 use mathlib.Core.Path.{_≡_, refl, sym, ap, _∙_}
 use native.Mathlib.Decide.{ℕ-discrete}
 use native.Mathlib.Nat.{add-zero}
-use native.Mathlib.Numerals.{add-one, unary-clauses}
 use native.Mathlib.Omega.{arith}
 use lib.Dec.{lit≤}
 use lib.ListN.{length, getD, set, drop, length-set}
 use lib.Seq.{getD-set-same, getD-set-other}
 use Rattle.calculus.specs.Words.{deepest}
 use Rattle.calculus.specs.Answer.{Reason, ok, refused, _>>=_, list-ends}
-use Rattle.calculus.specs.Reading.{Pending, below}
+use Rattle.calculus.specs.Reading.{below}
 use Rattle.term.specs.Subterms.{pending, skim, visited}
 use Rattle.term.proofs.Skimming.{skim-none, skim-word, skim-end}
+use Rattle.term.proofs.Stacked.{stacked, stored, taken}
 use Rattle.term.proofs.Visits.{has-level, binds-one}
-
--- The subterms that the first `n` entries of two arrays stand for: the last entry comes next.
-unfoldable pub stacked : List ℕ → List ℕ → ℕ → List Pending
-stacked rooms scopes zero = []
-stacked rooms scopes (suc n) = pending (getD rooms n 0) (getD scopes n 0) ∷ stacked rooms scopes n
 
 -- A node takes a level where it leaves a part pending and where it binds a variable, so neither is done more than `deepest` times.
 pub record Fits (n room b : ℕ) : Type 0 where
@@ -35,32 +30,6 @@ pub record Stands (ws rooms scopes : List ℕ) (n p room b : ℕ) : Type 0 where
   pub fits : Fits n room b
   pub waiting : (i : ℕ) → i < n → Fits i (getD rooms i 0) (getD scopes i 0)
   pub same : skim ws (pending deepest 0 ∷ []) 0 ≡ skim (drop p ws) (pending room b ∷ stacked rooms scopes n) p
-
--- What is stored behind the entries changes none of them.
-kept : (rooms scopes : List ℕ) (m x y n : ℕ) → n ≤ m → stacked (set rooms m x) (set scopes m y) n ≡ stacked rooms scopes n
-unfolding stacked
-kept rooms scopes m x y zero h = refl
-kept rooms scopes m x y (suc n) h =
-    rw
-    (getD-set-other rooms m n x 0 (λ e. absurd (omega arith)), getD-set-other scopes m n y 0 (λ e. absurd (omega arith)))
-    (ap (λ l. pending (getD rooms n 0) (getD scopes n 0) ∷ l) (kept rooms scopes m x y n (omega arith)))
-
-stored : (rooms scopes : List ℕ) (n x y : ℕ)
-    → n < length rooms
-    → n < length scopes
-    → stacked (set rooms n x) (set scopes n y) (n + 1) ≡ pending x y ∷ stacked rooms scopes n
-unfolding stacked
-stored rooms scopes n x y h k =
-    rw
-    (add-one n, getD-set-same rooms n x 0 h, getD-set-same scopes n y 0 k)
-    (ap (λ l. pending x y ∷ l) (kept rooms scopes n x y n (omega arith)))
-
-taken : (rooms scopes : List ℕ) (n : ℕ)
-    → 0 < n
-    → stacked rooms scopes n ≡ pending (getD rooms (n - 1) 0) (getD scopes (n - 1) 0) ∷ stacked rooms scopes (n - 1)
-unfolding stacked
-taken rooms scopes zero h = absurd (omega arith)
-taken rooms scopes (suc n) h = simp unary-clauses refl
 
 pub begins : (ws rooms scopes : List ℕ) → length rooms ≡ deepest → length scopes ≡ deepest → Stands ws rooms scopes 0 0 deepest 0
 unfolding stacked

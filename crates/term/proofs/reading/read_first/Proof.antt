@@ -39,34 +39,6 @@ second c =
     let i = c .before .before .before .before .before in
     second-fits (i .before .loop .inv) (i .loop-test .taken) (seen (c .before .before .before) (c .before .bound .given .1))
 
--- After a turn, by any arm, the reading stands at the next place.
-turned : (c : tie.At-match-came Inv-loop μ-loop)
-    → Stands
-    (c .before .before .before .before .before .before .args .words .now)
-    (c .match .rooms)
-    (c .match .scopes)
-    (c .match .waiting)
-    (c .before .before .before .before .loop .at + 1)
-    (c .match .room)
-    (c .match .binders)
-turned c =
-    let i = c .before .before .before in
-    ⊎-elim
-    (λ w.
-    rw
-    (w .5, w .6, w .7, w .8, w .9, w .3 .ensures, w .4 .ensures)
-    (turn-leaf (i .before .loop .inv) (i .loop-test .taken) (pos-of-ne-zero (w .2 .left)) (seen (c .before) (w .1 .given .1))))
-    (⊎-elim
-    (λ w.
-    rw
-    (w .2, w .3, w .4, w .5, w .6)
-    (turn-one (i .before .loop .inv) (i .loop-test .taken) (seen (c .before) (w .1 .given .1))))
-    (λ w.
-    rw
-    (w .5, w .6, w .7, w .8, w .9, w .3 .ensures, w .4 .ensures)
-    (turn-two (i .before .loop .inv) (i .loop-test .taken) (seen (c .before) (w .1 .given .1)))))
-    (c .match .came)
-
 loop-holds : tie.Need-loop-holds Inv-loop μ-loop
 loop-holds c = begins _ _ _ refl refl
 
@@ -151,8 +123,25 @@ add-at c = omega arith
 loop-less : tie.Need-loop-less Inv-loop μ-loop
 loop-less c = omega (arith, c .before .before .before .loop-test .taken)
 
+-- By any arm the reading stands at the next place.
 loop-again : tie.Need-loop-again Inv-loop μ-loop
-loop-again c = turned c
+loop-again c =
+    let i = c .before .before .before in
+    ⊎-elim
+    (λ w.
+    rw
+    (w .5, w .6, w .7, w .8, w .9, w .3 .ensures, w .4 .ensures)
+    (turn-leaf (i .before .loop .inv) (i .loop-test .taken) (pos-of-ne-zero (w .2 .left)) (seen (c .before) (w .1 .given .1))))
+    (⊎-elim
+    (λ w.
+    rw
+    (w .2, w .3, w .4, w .5, w .6)
+    (turn-one (i .before .loop .inv) (i .loop-test .taken) (seen (c .before) (w .1 .given .1))))
+    (λ w.
+    rw
+    (w .5, w .6, w .7, w .8, w .9, w .3 .ensures, w .4 .ensures)
+    (turn-two (i .before .loop .inv) (i .loop-test .taken) (seen (c .before) (w .1 .given .1)))))
+    (c .match .came)
 
 returns-3 : tie.Need-returns-3 Inv-loop μ-loop
 returns-3 c = short (c .before .loop .inv) (c .loop-test .left)
