@@ -3,6 +3,7 @@ pub mod Words
 pub mod Visits
 pub mod Walking
 pub mod Skimming
+pub mod Stacked
 pub mod Turns
 pub mod Whole
 pub mod Finding

@@ -1,83 +1,130 @@
--- One turn of reading a subterm, by what its first word is: a refusal or a leaf ends it, and a node with parts leaves it to its last
--- part, with one level less. The first of two parts is skimmed before that.
+-- The one loop of reading: where it stands, and what a turn makes of that by what the word at hand is. The subterm at hand comes first
+-- of those that are pending; a refusal ends the reading, a leaf leaves it to the next one pending, and a node to its parts.
 use Prim.Native.Nat.{ℕ, _+_, _-_, _≤_, _<_}
 use mathlib.Core.List.{List, [], _∷_}
-use mathlib.Core.Path.{_≡_, refl, sym}
+use mathlib.Core.Path.{_≡_, refl, sym, ap, _∙_}
+use native.Mathlib.Decide.{ℕ-discrete}
 use native.Mathlib.Nat.{add-zero}
 use native.Mathlib.Omega.{arith}
-use lib.ListN.{length, getD, drop}
+use lib.Dec.{lit≤}
+use lib.ListN.{length, getD, set, drop, length-set}
+use lib.Seq.{getD-set-same, getD-set-other}
 use Rattle.calculus.specs.Words.{deepest}
-use Rattle.calculus.specs.Answer.{Reason, ok, refused, _>>=_}
+use Rattle.calculus.specs.Answer.{Reason, ok, refused, _>>=_, list-ends}
 use Rattle.calculus.specs.Reading.{below}
 use Rattle.term.specs.Subterms.{pending, skim, visited}
-use Rattle.term.proofs.Skimming.{skim-none, skim-split, skim-ends, skim-word}
+use Rattle.term.proofs.Skimming.{skim-none, skim-word, skim-end}
+use Rattle.term.proofs.Stacked.{stacked, stored, taken}
 use Rattle.term.proofs.Visits.{has-level, binds-one}
 
--- The subterm at `p` is left to the part at `q`.
-pub record Leaves (ws : List ℕ) (p room b q room′ b′ : ℕ) : Type 0 where
-  pub level : 0 < room
-  pub forward : p < q
-  pub within : q ≤ length ws
-  pub shallow : room′ + b′ ≤ deepest
-  pub same : skim (drop p ws) (pending room b ∷ []) p ≡ skim (drop q ws) (pending room′ b′ ∷ []) q
+-- A node takes a level where it leaves a part pending and where it binds a variable, so neither is done more than `deepest` times.
+pub record Fits (n room b : ℕ) : Type 0 where
+  pub few : n + room ≤ deepest
+  pub shallow : room + b ≤ deepest
 
-module _ (ws : List ℕ) (p room b : ℕ) (inside : p < length ws) where
-  pub turn-refused : {r : Reason}
-      → refused r p ≡ visited (getD ws p 0) (pending room b) p
-      → refused r p ≡ skim (drop p ws) (pending room b ∷ []) p
-  unfolding _>>=_
-  turn-refused e = rw (skim-word ws p (pending room b) [] inside, ← e) refl
+-- The reading of all words stands at place `p`, with `n` subterms pending behind the one at hand.
+pub record Stands (ws rooms scopes : List ℕ) (n p room b : ℕ) : Type 0 where
+  pub within : p ≤ length ws
+  pub many-rooms : length rooms ≡ deepest
+  pub many-scopes : length scopes ≡ deepest
+  pub fits : Fits n room b
+  pub waiting : (i : ℕ) → i < n → Fits i (getD rooms i 0) (getD scopes i 0)
+  pub same : skim ws (pending deepest 0 ∷ []) 0 ≡ skim (drop p ws) (pending room b ∷ stacked rooms scopes n) p
 
-  pub turn-leaf : ok [] ≡ visited (getD ws p 0) (pending room b) p → ok (p + 1) ≡ skim (drop p ws) (pending room b ∷ []) p
-  unfolding _>>=_
-  turn-leaf e = rw (skim-word ws p (pending room b) [] inside, ← e) (sym (skim-none (drop (p + 1) ws) (p + 1)))
+pub begins : (ws rooms scopes : List ℕ) → length rooms ≡ deepest → length scopes ≡ deepest → Stands ws rooms scopes 0 0 deepest 0
+unfolding stacked
+begins ws rooms scopes many-rooms many-scopes =
+    record {
+      within = omega arith;
+      many-rooms = many-rooms;
+      many-scopes = many-scopes;
+      fits = record { few = lit≤ tt; shallow = lit≤ tt };
+      waiting = λ i h. absurd (omega arith);
+      same = refl;
+    }
 
-  -- What is left after the word of a node with one part, or with two.
-  one-left : ok (0 ∷ []) ≡ visited (getD ws p 0) (pending room b) p
-      → skim (drop p ws) (pending room b ∷ []) p ≡ skim (drop (p + 1) ws) (pending (room - 1) b ∷ []) (p + 1)
-  unfolding _>>=_ below
-  one-left e = rw (skim-word ws p (pending room b) [] inside, ← e) (rw (add-zero b) refl)
+module _ {ws rooms scopes : List ℕ} {n p room b : ℕ} (s : Stands ws rooms scopes n p room b) where
+  pub short : length ws ≤ p → refused list-ends p ≡ skim ws (pending deepest 0 ∷ []) 0
+  short h = sym (s .same ∙ skim-end ws p (pending room b) (stacked rooms scopes n) h)
 
-  two-left : {k : ℕ}
-      → ok (0 ∷ k ∷ []) ≡ visited (getD ws p 0) (pending room b) p
-      → skim (drop p ws) (pending room b ∷ []) p
-      ≡ (skim (drop (p + 1) ws) (pending (room - 1) b ∷ []) (p + 1) >>= λ q. skim (drop q ws) (pending (room - 1) (b + k) ∷ []) q)
-  unfolding _>>=_ below
-  two-left {k} e =
-      rw (skim-word ws p (pending room b) [] inside, ← e)
-      (rw (add-zero b) (skim-split ws (p + 1) (pending (room - 1) b) (pending (room - 1) (b + k) ∷ [])))
+  module _ (inside : p < length ws) where
+    pub turn-refused : {r : Reason}
+        → refused r p ≡ visited (getD ws p 0) (pending room b) p
+        → refused r p ≡ skim ws (pending deepest 0 ∷ []) 0
+    unfolding _>>=_
+    turn-refused e = rw (s .same, skim-word ws p (pending room b) (stacked rooms scopes n) inside, ← e) refl
 
-  pub turn-first-refused : {k q : ℕ} {r : Reason}
-      → ok (0 ∷ k ∷ []) ≡ visited (getD ws p 0) (pending room b) p
-      → refused r q ≡ skim (drop (p + 1) ws) (pending (room - 1) b ∷ []) (p + 1)
-      → refused r q ≡ skim (drop p ws) (pending room b ∷ []) p
-  unfolding _>>=_
-  turn-first-refused e first = rw (two-left e, ← first) refl
+    after-leaf : ok [] ≡ visited (getD ws p 0) (pending room b) p
+        → skim ws (pending deepest 0 ∷ []) 0 ≡ skim (drop (p + 1) ws) (stacked rooms scopes n) (p + 1)
+    unfolding _>>=_
+    after-leaf e = rw (s .same, skim-word ws p (pending room b) (stacked rooms scopes n) inside, ← e) refl
 
-  pub turn-one : room + b ≤ deepest → ok (0 ∷ []) ≡ visited (getD ws p 0) (pending room b) p → Leaves ws p room b (p + 1) (room - 1) b
-  turn-one shallow e =
-      record {
-        level = has-level (getD ws p 0) (pending room b) p e;
-        forward = omega arith;
-        within = omega arith;
-        shallow = omega arith;
-        same = one-left e;
-      }
+    pub turn-last : n ≡ 0 → ok [] ≡ visited (getD ws p 0) (pending room b) p → ok (p + 1) ≡ skim ws (pending deepest 0 ∷ []) 0
+    unfolding stacked
+    turn-last none e = rw (after-leaf e, none) (sym (skim-none (drop (p + 1) ws) (p + 1)))
 
-  pub turn-two : {k q : ℕ}
-      → room + b ≤ deepest
-      → ok (0 ∷ k ∷ []) ≡ visited (getD ws p 0) (pending room b) p
-      → ok q ≡ skim (drop (p + 1) ws) (pending (room - 1) b ∷ []) (p + 1)
-      → Leaves ws p room b q (room - 1) (b + k)
-  unfolding _>>=_
-  turn-two {k} {q} shallow e first =
-      let level = has-level (getD ws p 0) (pending room b) p e in
-      let one : k ≤ 1 = binds-one (getD ws p 0) (pending room b) p e in
-      let (low, high) = skim-ends ws (pending (room - 1) b ∷ []) (p + 1) q (omega arith) first in
-      record {
-        level = level;
-        forward = omega arith;
-        within = high;
-        shallow = omega arith;
-        same = rw (two-left e, ← first) refl;
-      }
+    pub turn-leaf : 0 < n
+        → ok [] ≡ visited (getD ws p 0) (pending room b) p
+        → Stands ws rooms scopes (n - 1) (p + 1) (getD rooms (n - 1) 0) (getD scopes (n - 1) 0)
+    turn-leaf some e =
+        record {
+          within = omega arith;
+          many-rooms = s .many-rooms;
+          many-scopes = s .many-scopes;
+          fits = s .waiting (n - 1) (omega arith);
+          waiting = λ i h. s .waiting i (omega arith);
+          same = after-leaf e ∙ ap (λ l. skim (drop (p + 1) ws) l (p + 1)) (taken rooms scopes n some);
+        }
+
+    pub turn-one : ok (0 ∷ []) ≡ visited (getD ws p 0) (pending room b) p → Stands ws rooms scopes n (p + 1) (room - 1) b
+    unfolding _>>=_ below
+    turn-one e =
+        record {
+          within = omega arith;
+          many-rooms = s .many-rooms;
+          many-scopes = s .many-scopes;
+          fits = record { few = omega (arith, s .fits .few); shallow = omega (arith, s .fits .shallow) };
+          waiting = s .waiting;
+          same = rw (s .same, skim-word ws p (pending room b) (stacked rooms scopes n) inside, ← e) (rw (add-zero b) refl);
+        }
+
+    module _ {k : ℕ} (e : ok (0 ∷ k ∷ []) ≡ visited (getD ws p 0) (pending room b) p) where
+      level : 0 < room
+      level = has-level (getD ws p 0) (pending room b) p e
+
+      pub second-fits : Fits (n + 1) (room - 1) (b + k)
+      second-fits =
+          let some = level in
+          let one : k ≤ 1 = binds-one (getD ws p 0) (pending room b) p e in
+          record { few = omega (arith, s .fits .few); shallow = omega (arith, s .fits .shallow) }
+
+      room-free : n < length rooms
+      room-free = omega (arith, level, s .fits .few, s .many-rooms)
+
+      scope-free : n < length scopes
+      scope-free = omega (arith, level, s .fits .few, s .many-scopes)
+
+      pub turn-two : Stands ws (set rooms n (room - 1)) (set scopes n (b + k)) (n + 1) (p + 1) (room - 1) b
+      unfolding _>>=_ below
+      turn-two =
+          record {
+            within = omega arith;
+            many-rooms = length-set rooms n (room - 1) ∙ s .many-rooms;
+            many-scopes = length-set scopes n (b + k) ∙ s .many-scopes;
+            fits = record { few = second-fits .few; shallow = omega (arith, second-fits .shallow) };
+            waiting = λ i h. each i h (ℕ-discrete i n);
+            same =
+                rw
+                (s .same, skim-word ws p (pending room b) (stacked rooms scopes n) inside, ← e, stored rooms scopes n (room - 1) (b + k) room-free scope-free)
+                (rw (add-zero b) refl);
+          }
+        where
+          each : (i : ℕ) → i < n + 1 → Dec (i ≡ n) → Fits i (getD (set rooms n (room - 1)) i 0) (getD (set scopes n (b + k)) i 0)
+          each i h (yes last) =
+              rw
+              (last, getD-set-same rooms n (room - 1) 0 room-free, getD-set-same scopes n (b + k) 0 scope-free)
+              (record { few = omega (arith, second-fits .few); shallow = second-fits .shallow })
+          each i h (no other) =
+              rw
+              (getD-set-other rooms n i (room - 1) 0 other, getD-set-other scopes n i (b + k) 0 other)
+              (s .waiting i (omega arith))

@@ -4,9 +4,8 @@ use crate::refusal::Refusal;
 use crate::word::Meaning;
 use crate::word::classify;
 ghost use mathlib.Core.Path.{_≡_};
-ghost use Prim.Native.Nat.{ℕ, _≤_, _+_};
+ghost use Prim.Native.Nat.{ℕ, _≤_};
 ghost use mathlib.Core.List.{[], _∷_};
-ghost use lib.ListN.{length, drop};
 ghost use Rattle.calculus.specs.Words.{deepest};
 ghost use Rattle.calculus.specs.Reading.{read};
 ghost use Rattle.term.specs.Subterms.{outcome, pending, reading-of, skim, subterm-of, visit-of, visited};
@@ -62,39 +61,55 @@ fn wide(word: u16) -> usize
     word as usize
 }
 
-// Reads the subterm that begins at `from`, of at most `levels` levels and inside `around` binders. The first of two parts is read
-// by a call, the second by the next turn of the loop.
-fn read_subterm(words: &[u16], from: usize, levels: usize, around: usize) -> Subterm
-    requires { ⌜ (from ≤ length (now words)) × (levels + around ≤ deepest) ⌝ }
-    ensures { λ r. ⌜ subterm-of r ≡ skim (drop from (now (words .entry))) (pending levels around ∷ []) from ⌝ }
+// The levels and the binders of a pending subterm are kept in bytes: neither is above 64.
+fn to_byte(count: usize) -> u8
+    requires { ⌜ count ≤ deepest ⌝ }
+    ensures { λ r. ⌜ r ≡ count ⌝ }
 {
-    let mut at = from;
-    let mut room = levels;
-    let mut binders = around;
+    count as u8
+}
+
+fn from_byte(byte: u8) -> usize
+    ensures { λ r. ⌜ r ≡ byte ⌝ }
+{
+    byte as usize
+}
+
+// Reads the closed term that the words begin with. The second of two parts is pending while the first is read: `rooms` and `scopes`
+// hold the levels left for each pending subterm and the binders around it, the one that comes next last.
+fn read_first(words: &[u16]) -> Subterm
+    ensures { λ r. ⌜ subterm-of r ≡ skim (now (words .entry)) (pending deepest 0 ∷ []) 0 ⌝ }
+{
+    let mut rooms = [0u8; 64];
+    let mut scopes = [0u8; 64];
+    let mut waiting = 0;
+    let mut at = 0;
+    let mut room = 64;
+    let mut binders = 0;
     while at < words.len() {
         match tested(words[at], room, binders) {
             Visit::Refused(reason) => {
                 return Subterm::Refused(Refusal { reason, place: at });
             }
             Visit::Leaf => {
-                return Subterm::Ends(at + 1);
+                if waiting == 0 {
+                    return Subterm::Ends(at + 1);
+                }
+                waiting -= 1;
+                room = from_byte(rooms[waiting]);
+                binders = from_byte(scopes[waiting]);
             }
             Visit::One => {
-                at += 1;
+                room -= 1;
             }
             Visit::Two(bound) => {
-                match read_subterm(words, at + 1, room - 1, binders) {
-                    Subterm::Refused(refusal) => {
-                        return Subterm::Refused(refusal);
-                    }
-                    Subterm::Ends(next) => {
-                        at = next;
-                    }
-                }
-                binders += bound;
+                room -= 1;
+                rooms[waiting] = to_byte(room);
+                scopes[waiting] = to_byte(binders + bound);
+                waiting += 1;
             }
         }
-        room -= 1;
+        at += 1;
     }
     Subterm::Refused(Refusal {
         reason: Reason::ListEnds,
@@ -119,7 +134,7 @@ pub fn read(words: &[u16]) -> Reading
             place: 0,
         });
     }
-    match read_subterm(words, 0, 64, 0) {
+    match read_first(words) {
         Subterm::Refused(refusal) => Reading::Refused(refusal),
         Subterm::Ends(end) => {
             if end < length {

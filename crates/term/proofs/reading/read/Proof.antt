@@ -13,8 +13,8 @@ returns c = read-empty _ (c .if1 .taken)
 returns-2 : tie.Need-returns-2
 returns-2 c = read-long _ (c .if2 .taken)
 
-read-subterm-requires : tie.Need-read-subterm-requires
-read-subterm-requires c κs = search needs
+read-first-requires : tie.Need-read-first-requires
+read-first-requires c κs = search needs
 
 enum-known-refusal : tie.Need-enum-known-refusal
 enum-known-refusal c = search needs
@@ -29,7 +29,7 @@ returns-3 c =
     _
     (pos-of-ne-zero (r .before .before .if1 .left))
     (r .before .if2 .left)
-    (ap subterm-of (sym (c .before .before .end .given .1)) ∙ r .read-subterm .ensures)
+    (ap subterm-of (sym (c .before .before .end .given .1)) ∙ r .read-first .ensures)
     (c .if3 .taken)
 
 returns-4 : tie.Need-returns-4
@@ -39,7 +39,7 @@ returns-4 c =
     _
     (pos-of-ne-zero (r .before .before .if1 .left))
     (r .before .if2 .left)
-    (ap subterm-of (sym (c .before .refusal .given .1)) ∙ r .read-subterm .ensures)
+    (ap subterm-of (sym (c .before .refusal .given .1)) ∙ r .read-first .ensures)
 
 returns-5 : tie.Need-returns-5
 returns-5 c =
@@ -48,7 +48,7 @@ returns-5 c =
     _
     (pos-of-ne-zero (r .before .before .if1 .left))
     (r .before .if2 .left)
-    (ap subterm-of (sym (c .before .before .end .given .1)) ∙ r .read-subterm .ensures)
+    (ap subterm-of (sym (c .before .before .end .given .1)) ∙ r .read-first .ensures)
     (c .if3 .left)
 
 pub read-spec : {M : Type 1} → statement M
@@ -57,7 +57,7 @@ read-spec =
     (tie.spec
     returns
     returns-2
-    read-subterm-requires
+    read-first-requires
     enum-known-refusal
     enum-known-end
     returns-3
