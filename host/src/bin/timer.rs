@@ -1,7 +1,8 @@
 //! How long the calls take on the request lines `check` and `run` of standard input: `timer [SECONDS]`. A line for each kind:
-//!     check CALLS NANOSECONDS-A-CALL
-//!     run CALLS NANOSECONDS-A-CALL STEPS NANOSECONDS-A-STEP
-//! The lines are read first; then each kind is called over and over for about that long, on slices that stay the same.
+//!     check CALLS NANOSECONDS-A-CALL, slowest NANOSECONDS
+//!     run CALLS NANOSECONDS-A-CALL STEPS NANOSECONDS-A-STEP, slowest step NANOSECONDS
+//! The lines are read first; then each kind is called over and over for about that long, on slices that stay the same. The slowest
+//! is that of the lines, each by the least of five calls.
 
 use std::hint::black_box;
 use std::io::BufRead;
@@ -32,6 +33,16 @@ fn repeat(requests: &[Request], seconds: f64, mut once: impl FnMut(&Request)) ->
     (rounds * requests.len() as u64, start.elapsed().as_nanos() as f64)
 }
 
+/// The least nanoseconds of five calls of `once`.
+fn least(mut once: impl FnMut()) -> f64 {
+    let time = |_| {
+        let start = Instant::now();
+        once();
+        start.elapsed().as_nanos() as f64
+    };
+    (0..5).map(time).fold(f64::MAX, f64::min)
+}
+
 fn main() {
     let seconds = std::env::args().nth(1).and_then(|s| s.parse().ok()).unwrap_or(2.0);
     let lines: Vec<String> = std::io::stdin().lock().lines().map(|l| l.unwrap()).collect();
@@ -43,7 +54,9 @@ fn main() {
         let (calls, ns) = repeat(&checks, seconds, |c| {
             black_box(feguavy::check(black_box(&c.words), c.first, &mut work, &mut result));
         });
-        println!("check {} {:.1}", calls, ns / calls as f64);
+        let slowest = checks.iter().map(|c| least(|| _ = black_box(feguavy::check(&c.words, c.first, &mut work, &mut result))));
+        let slowest = slowest.fold(0.0, f64::max);
+        println!("check {} {:.1}, slowest {:.1}", calls, ns / calls as f64, slowest);
     }
     if !runs.is_empty() {
         let mut steps = 0u64;
@@ -51,6 +64,15 @@ fn main() {
             let ran = black_box(feguavy::run(black_box(&c.words), c.first, &mut work, &mut result, c.second));
             steps += ran.answer.map_or(0, |e| e.steps as u64);
         });
-        println!("run {} {:.1} {} {:.1}", calls, ns / calls as f64, steps, ns / steps.max(1) as f64);
+        let slowest = runs.iter().map(|c| {
+            let mut taken = 0;
+            let ns = least(|| {
+                let ran = feguavy::run(&c.words, c.first, &mut work, &mut result, c.second);
+                taken = ran.answer.map_or(0, |e| e.steps);
+            });
+            ns / taken.max(1) as f64
+        });
+        let slowest = slowest.fold(0.0, f64::max);
+        println!("run {} {:.1} {} {:.1}, slowest step {:.1}", calls, ns / calls as f64, steps, ns / steps.max(1) as f64, slowest);
     }
 }
