@@ -1,14 +1,14 @@
 -- A step of a term has no other free variables than the term: what is put in for a variable is part of the term, and a walk
 -- through a term that takes every variable in scope to a term in scope takes every term in scope to one, since this goes under
 -- a binder.
-use Prim.Native.Nat.{ℕ, zero, suc, _≤_, _<_}
-use mathlib.Core.Path.{_∙_, sym, subst}
+use Prim.Native.Nat.{ℕ, zero, suc, _<_}
+use mathlib.Core.Path.{sym, subst}
 use native.Mathlib.Nat.{le-of-suc-le-suc}
 use native.Mathlib.Omega.{arith}
 use Rattle.calculus.specs.Term.{Term, var, star, app, lam, pi, castup, castdown, mu, substitute}
 use Rattle.calculus.specs.Words.{Scoped}
 use Rattle.calculus.specs.Rules.{_⟶_, s-beta, s-castdownup, s-app, s-castdown, s-mu}
-use Rattle.calculus.proofs.Parallel.{traverse, lift-index, rename, lift, sub, rename-is-sub, sub-var}
+use Rattle.calculus.proofs.Parallel.{traverse, lift-index, rename, lift, sub}
 use Rattle.calculus.proofs.Bridge.{single, substitute-is-sub}
 
 module _ {A : Type 0} (v : A → Term) (l : (ℕ → A) → ℕ → A) where
@@ -66,8 +66,3 @@ step-scoped n s-castdownup s = s .1
 step-scoped n (s-app r) s = (step-scoped n r (s .0), s .1)
 step-scoped n (s-castdown r) s = step-scoped n r s
 step-scoped n (s-mu {a} {e}) s = substitute-scoped n (mu a e) e s (s .1)
-
--- More variables may be in scope.
-pub scoped-more : (n m : ℕ) → n ≤ m → (t : Term) → Scoped n t → Scoped m t
-scoped-more n m l t s =
-    subst (Scoped m) (rename-is-sub (λ i. i) t ∙ sub-var t) (rename-scoped (λ i. i) n m (λ i h. omega arith) t s)

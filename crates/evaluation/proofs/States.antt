@@ -21,9 +21,10 @@ use Rattle.reduction.specs.Stepping.{Codes, Arrives, Steps}
 use Rattle.reduction.specs.declared.copying.Room.{Room}
 use Rattle.reduction.specs.declared.stepping.Stepped.{Stepped}
 use Rattle.reduction.specs.declared.stepping.Stepped.the-variants as stepped
+use Rattle.reduction.proofs.Scoping.{scoped-more}
 use Rattle.evaluation.specs.Courses.{Holds, Advances}
 use Rattle.evaluation.proofs.Begun.{sets-begun, take-begun, drop-begun}
-use Rattle.evaluation.proofs.Scoping.{step-scoped, scoped-more}
+use Rattle.evaluation.proofs.Scoping.{step-scoped}
 
 -- The words are those of the closed term `x`, which are `count` in number and at most 1,024.
 pub record Spells (e : List ℕ) (count : ℕ) (x : Term) : Type 0 where
@@ -46,7 +47,7 @@ spells-codes {x} h =
       term = x;
       coded = h .coded;
       short = h .short;
-      scoped = scoped-more 0 deepest (lit≤ tt) x (h .closed);
+      scoped = scoped-more {m = 0} {n = deepest} x (lit≤ tt) (h .closed);
       shut = λ _. h .closed;
     }
 
@@ -80,9 +81,7 @@ module _ {e slice : List ℕ} {r : Room} {after : List ℕ} {count : ℕ} {x : T
 
 -- A step from the state `x` at the front of `work`, written to the front of the room for a state, which it leaves as `room`.
 module _ {work : List ℕ} {count : ℕ} {x : Term}
-    (all : longest ≤ length work)
-    (h : Holds work count x)
-    (room : List ℕ)
+    (all : longest ≤ length work) (h : Holds work count x) (room : List ℕ)
     (kept : length room ≡ longest) where
   behind : drop longest (room ++ drop longest work) ≡ drop longest work
   behind = drop-at room (drop longest work) longest kept

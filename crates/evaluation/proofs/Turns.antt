@@ -63,15 +63,10 @@ turned g x work count after r a = on (calculus.step x) refl a
         by-size : Dec (size y ≤ longest) → Turned g x count after r
         by-size (yes l) =
             let (p, h) = a .0 l in
-            subst
-            (Turned g x count after)
-            (sym p)
-            (y, ap (run.advance (run-from g) x) e ∙ rw (le-leb (size y) longest l) refl, h)
+            subst (Turned g x count after) (sym p) (y, ap (run.advance (run-from g) x) e ∙ rw (le-leb (size y) longest l) refl, h)
         by-size (no l) =
             let (p, h) = a .1 (omega arith) in
-            subst
-            (Turned g x count after)
-            (sym p)
+            subst (Turned g x count after) (sym p)
             (ap (run.advance (run-from g) x) e ∙ rw (gt-leb (size y) longest (omega arith)) refl, h)
 
 -- The answers that end a run, and the ends.
@@ -99,8 +94,7 @@ module _ {grant taken : ℕ} {t : Term} {work : List ℕ} {count : ℕ} (h : Rea
       → Performs (run-from grant t) start (record { end = E; steps = taken; length = count }) after
   unfolding stop
   ends {start} {after} E m n e k b =
-      subst
-      (λ r. Performs r start (record { end = E; steps = taken; length = count }) after)
+      subst (λ r. Performs r start (record { end = E; steps = taken; length = count }) after)
       (sym (h .course ∙ ap (λ g. later taken (run-from g (h .state))) n ∙ ap (later taken) e))
       (record { end = refl; steps = sym (add-zero taken); holds = k; behind = b })
 

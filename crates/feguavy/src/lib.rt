@@ -111,7 +111,7 @@ pub extern "C" fn feguavy_run(
     allowance: u32,
 ) -> RanNumbers
     ensures outcome { λ r. ⌜ Numbered-run (calculus.run (now (term .entry)) budget allowance (now (work .entry)) (now (state .entry))) r (now (work .exit)) (now (state .exit)) ⌝ }
-    ensures safety { λ r. ⌜ SafeRun (now (term .entry)) budget allowance (now (work .entry)) (now (state .entry)) (calculus.run (now (term .entry)) budget allowance (now (work .entry)) (now (state .entry))) ⌝ }
+    ensures safety { λ r. ⌜ ((c : calculus.Ran) × Numbered-run c r (now (work .exit)) (now (state .exit)) × SafeRun (now (term .entry)) budget allowance (now (work .entry)) (now (state .entry)) c) ⌝ }
 {
     let outcome = run(term, budget, work, state, Desk { allowance });
     let left = outcome.desk.allowance;

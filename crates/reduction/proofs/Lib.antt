@@ -6,6 +6,7 @@ pub mod Changes
 pub mod Passing
 pub mod Tails
 pub mod Turns
+pub mod Scoping
 pub mod Plain
 pub mod Rewritten
 pub mod Frames

@@ -16,7 +16,7 @@ use Rattle.term.specs.declared.word.Meaning.the-variants.{Star, CastDown, Appli
 use Rattle.term.specs.Word.{meaning-of}
 use Rattle.term.proofs.Visits.{tag, Each, at-one}
 
-abbrev index : calculus.Meaning → ℕ
+abbrev pub index : calculus.Meaning → ℕ
 index a-star = 0
 index a-castdown = 1
 index an-app = 2
@@ -30,7 +30,7 @@ index nothing = 8
 unfoldable pub kind : ℕ → ℕ
 kind w = index (meaning w)
 
-tag-index : (m : Meaning) → tag m ≡ index (meaning-of m)
+pub tag-index : (m : Meaning) → tag m ≡ index (meaning-of m)
 tag-index Star = refl
 tag-index CastDown = refl
 tag-index Application = refl

@@ -17,12 +17,13 @@ use Rattle.calculus.specs.Rules.{Context}
 use Rattle.calculus.specs.Infer.{infer}
 use Rattle.calculus.proofs.Coding.{emit-append, emit-length, words-length, words-injective}
 use Rattle.reduction.specs.Stepping.{Codes}
+use Rattle.reduction.proofs.Scoping.{scoped-more}
 use Rattle.term.specs.Walk.{span}
 use Rattle.term.proofs.Walking.{span-emit}
 use Rattle.typing.specs.Inference.{Subject}
 use Rattle.typing.proofs.Nodes.{of-app}
 use Rattle.typing.proofs.Subjects.{behind, between as part-words, first, second, kept, place-first, place-second}
-use Rattle.typing.proofs.Rooms.{scoped-more, subject-shallow, deeper-scoped}
+use Rattle.typing.proofs.Rooms.{subject-shallow, deeper-scoped}
 use Rattle.typing.proofs.Types.{type-scoped, type-fits}
 use Rattle.typing.proofs.Passing.{Part}
 use Rattle.typing.proofs.Heads.{Headed, lying-headed, lying-pi}
@@ -67,9 +68,7 @@ module _ {Γ : Context} {f u : Term} {term sub places : List ℕ} {depth : ℕ} 
   pub is-product : a-pi ≡ meaning (getD between top 0) → (a : Term) × (b : Term) × (F .type ≡ pi a b)
   unfolding Headed
   is-product w =
-      subst
-      (λ k. Headed k (F .type))
-      (sym w)
+      subst (λ k. Headed k (F .type)) (sym w)
       (lying-headed (F .type) m top between (F .lies) (F .long) (deeper-scoped S (F .type) (type-scoped (first S of-app) L _ (F .found))))
 
   pub function-product : (w : a-pi ≡ meaning (getD between top 0))
@@ -124,8 +123,7 @@ module _ {L : ℕ} {Γ : Context} {p : ℕ} {f u : Term} {places : List ℕ} {de
       (λ ws. span ws 1)
       (inner after (words (pi (C .domain) (C .codomain))) top m 1 (top + m - (top + 1)) (C .lies) (omega (arith, C .long))
       ∙ take-all
-      (top + m - (top + 1))
-      (emit (C .domain) (words (C .codomain)))
+      (top + m - (top + 1)) (emit (C .domain) (words (C .codomain)))
       (omega (arith, C .long, emit-length (C .domain) (words (C .codomain)), words-length (C .codomain))))
       ∙ span-emit (C .domain) (words (C .codomain))
 
@@ -167,9 +165,7 @@ module _ {L : ℕ} {Γ : Context} {p : ℕ} {f u : Term} {places : List ℕ} {de
         (tells : (alike ≡ true) ↔ (take d (drop (top + 1) after) ≡ take d (drop (top + m) after))) where
       pub same-type : alike ≡ true → C .type ≡ C .domain
       same-type z =
-          words-injective
-          (C .type)
-          (C .domain)
+          words-injective (C .type) (C .domain)
           (sym (C .type-lies) ∙ ap (λ k. take k (drop (top + m) after)) y ∙ sym (tells .0 z) ∙ domain-words)
 
       pub told-same : C .type ≡ C .domain → alike ≡ true

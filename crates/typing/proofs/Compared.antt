@@ -19,9 +19,7 @@ longer σ τ x y d q = d (x ∙ ap size q ∙ sym y)
 
 -- τ lies at `top`, and σ was written behind it.
 module _ (before : List ℕ) (top m : ℕ) {after : List ℕ} (σ τ : Term)
-    (lies : take m (drop top before) ≡ words τ)
-    (x : after ≡ sets before (top + m) (words σ))
-    (long : m ≡ size σ)
+    (lies : take m (drop top before) ≡ words τ) (x : after ≡ sets before (top + m) (words σ)) (long : m ≡ size σ)
     (room : top + (m + m) ≤ length before)
     {r : Bool} (h : (r ≡ true) ↔ (take m (drop top after) ≡ take m (drop (top + m) after))) where
   first-lies : take m (drop top after) ≡ words τ

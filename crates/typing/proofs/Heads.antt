@@ -12,7 +12,6 @@ use lib.ListN.{take, drop, getD}
 use lib.Seq.{getD-take, getD-drop}
 use mir.Val.{hasKey}
 use types.Run.{OneOf, miss}
-use denote.Enum.Declared.{tagOf, declared}
 use Rattle.calculus.specs.Term.{Term, var, star, app, lam, pi, castup, castdown, mu, size}
 use Rattle.calculus.specs.Words.{emit, words, Scoped, deepest}
 use Rattle.calculus.specs.Reading as calculus
@@ -22,8 +21,8 @@ use Rattle.calculus.proofs.Coding.{size-positive}
 use Rattle.calculus.proofs.Meanings.{meaning-word, word, Indexed}
 use Rattle.term.specs.Word.{meaning-of}
 use Rattle.term.specs.declared.word.Meaning.{Meaning}
-use Rattle.term.specs.declared.word.Meaning.the-variants.{Star, CastDown, Application, CastUp, Abstraction, Product, Recursion, Variable, Nothing}
-use Rattle.term.proofs.word.Meaning as enum
+use Rattle.term.proofs.Visits.{tag}
+use Rattle.reduction.proofs.WordKinds.{index, tag-index}
 use Rattle.typing.specs.Inference.{Subject}
 use Rattle.typing.proofs.Rooms.{own-scope, deeper-scoped}
 
@@ -55,9 +54,7 @@ pub subject-headed : {Γ : Context} {e : Term} {term sub places : List ℕ} {dep
     → m ≡ meaning (getD sub 0 0)
     → Headed m e
 subject-headed {e} S x =
-    subst
-    (λ k. Headed k e)
-    (ap (λ ws. meaning (getD ws 0 0)) (sym (S .begins)) ∙ sym x)
+    subst (λ k. Headed k e) (ap (λ ws. meaning (getD ws 0 0)) (sym (S .begins)) ∙ sym x)
     (headed e (S .rest) (deeper-scoped S e (own-scope S)))
 
 -- The first word of what lies in a slice.
@@ -94,40 +91,12 @@ pub lying-pi : (a b : Term) (m top : ℕ) (after : List ℕ)
 unfolding words emit meaning
 lying-pi a b m top after x l = ap meaning (lying-word (pi a b) m top after x l)
 
--- The code's number of a meaning, and what a decision says that takes another way.
-tag : calculus.Meaning → ℕ
-tag a-star = 0
-tag a-castdown = 1
-tag an-app = 2
-tag a-castup = 3
-tag a-lam = 4
-tag a-pi = 6
-tag a-mu = 5
-tag (a-variable i) = 7
-tag nothing = 8
+-- What a decision says that takes another way.
+other : (ks : List ℕ) (m : calculus.Meaning) (r : Meaning) → T (not (hasKey ks (index m))) → OneOf ks (tag r) → meaning-of r ≢ m
+other ks m r n h x = miss ks (tag r) (subst (λ k. T (not (hasKey ks k))) (sym (tag-index r ∙ ap index x)) n) h
 
-tag-of : (r : Meaning) → tagOf (declared enum.enum) r ≡ tag (meaning-of r)
-unfolding tag
-tag-of Star = refl
-tag-of CastDown = refl
-tag-of Application = refl
-tag-of CastUp = refl
-tag-of Abstraction = refl
-tag-of Product = refl
-tag-of Recursion = refl
-tag-of (Variable i) = refl
-tag-of Nothing = refl
-
-other : (ks : List ℕ) (m : calculus.Meaning) (r : Meaning)
-    → T (not (hasKey ks (tag m)))
-    → OneOf ks (tagOf (declared enum.enum) r)
-    → meaning-of r ≢ m
-other ks m r n h x = miss ks (tagOf (declared enum.enum) r) (rw (tag-of r, x) n) h
-
-pub not-star : (r : Meaning) → OneOf (1 ∷ 2 ∷ 3 ∷ 4 ∷ 5 ∷ 6 ∷ 7 ∷ 8 ∷ []) (tagOf (declared enum.enum) r) → meaning-of r ≢ a-star
-unfolding tag
+pub not-star : (r : Meaning) → OneOf (1 ∷ 2 ∷ 3 ∷ 4 ∷ 5 ∷ 6 ∷ 7 ∷ 8 ∷ []) (tag r) → meaning-of r ≢ a-star
 not-star r h = other (1 ∷ 2 ∷ 3 ∷ 4 ∷ 5 ∷ 6 ∷ 7 ∷ 8 ∷ []) a-star r tt h
 
-pub not-product : (r : Meaning) → OneOf (0 ∷ 1 ∷ 2 ∷ 3 ∷ 4 ∷ 5 ∷ 7 ∷ 8 ∷ []) (tagOf (declared enum.enum) r) → meaning-of r ≢ a-pi
-unfolding tag
+pub not-product : (r : Meaning) → OneOf (0 ∷ 1 ∷ 2 ∷ 3 ∷ 4 ∷ 5 ∷ 7 ∷ 8 ∷ []) (tag r) → meaning-of r ≢ a-pi
 not-product r h = other (0 ∷ 1 ∷ 2 ∷ 3 ∷ 4 ∷ 5 ∷ 7 ∷ 8 ∷ []) a-pi r tt h

@@ -57,8 +57,7 @@ module _ (work : List ℕ) (top limit : ℕ) (r : Stepped) (after : List ℕ) wh
   moved value m q = let z : _≡_ {A = ℕ} 0 1 = cc in absurd (omega arith)
   moved stuck m q = let z : _≡_ {A = ℕ} 0 1 = cc in absurd (omega arith)
   moved (next x) m q =
-      by-limit x m
-      (λ h t s. record { state = x; steps = refl; fits = h; long = cc (q, t); stored = s })
+      by-limit x m (λ h t s. record { state = x; steps = refl; fits = h; long = cc (q, t); stored = s })
       (λ h f. let z : _≡_ {A = ℕ} 0 1 = cc in absurd (omega arith))
 
   pub over-limit : (n : Next) → Moves n work top limit r after → r ≡ Full → (x : Term) × (n ≡ next x) × (limit < size x)

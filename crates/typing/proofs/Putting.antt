@@ -27,8 +27,7 @@ module _ {x : Term} {work : List ℕ} {top limit : ℕ} {r : Room} {after : List
 
   pub put : {end : ℕ} → r ≡ room.To end → Put x work top limit end after
   put q =
-      either
-      (λ h. record { fits = h; ends = cc (P .fits h .0, q); stored = P .fits h .1 })
+      either (λ h. record { fits = h; ends = cc (P .fits h .0, q); stored = P .fits h .1 })
       (λ h. let z : _≡_ {A = ℕ} 0 1 = cc (P .full h, q) in absurd (omega arith))
 
   pub put-over : r ≡ room.Full → limit < size x

@@ -12,10 +12,11 @@ use Rattle.calculus.specs.Term.{Term, var, star, app, lam, pi, castup, castdown
 use Rattle.calculus.specs.Words.{words, levels, Scoped, longest, deepest}
 use Rattle.calculus.specs.Rules.{Context}
 use Rattle.reduction.specs.Stepping.{Codes}
+use Rattle.reduction.proofs.Scoping.{scoped-more}
 use Rattle.typing.specs.Inference.{Subject, Roomy}
 use Rattle.typing.proofs.Subjects.{subject-long}
 
-pub levels-positive : (e : Term) → 1 ≤ levels e
+levels-positive : (e : Term) → 1 ≤ levels e
 unfolding levels
 levels-positive (var i) = omega arith
 levels-positive star = omega arith
@@ -29,17 +30,6 @@ levels-positive (mu a e) = omega arith
 pub castdown-levels : (e : Term) → levels e < levels (castdown e)
 unfolding levels
 castdown-levels e = omega arith
-
-pub scoped-more : {m n : ℕ} (e : Term) → m ≤ n → Scoped m e → Scoped n e
-unfolding Scoped
-scoped-more (var i) h s = omega arith
-scoped-more star h s = tt
-scoped-more (app f u) h s = (scoped-more f h (s .0), scoped-more u h (s .1))
-scoped-more (lam a e) h s = (scoped-more a h (s .0), scoped-more e (omega arith) (s .1))
-scoped-more (pi a b) h s = (scoped-more a h (s .0), scoped-more b (omega arith) (s .1))
-scoped-more (castup a e) h s = (scoped-more a h (s .0), scoped-more e h (s .1))
-scoped-more (castdown e) h s = scoped-more e h s
-scoped-more (mu a e) h s = (scoped-more a h (s .0), scoped-more e (omega arith) (s .1))
 
 module _ {Γ : Context} {e : Term} {term sub places : List ℕ} {depth : ℕ} (S : Subject Γ e term sub places depth) where
   -- There is a place for one annotation more.

@@ -131,33 +131,16 @@ module _ {Γ : Context} {e : Term} {term sub places : List ℕ} {depth : ℕ} (S
 
     pub first : Subject Γ a term (behind 1 sub) places depth
     first =
-        at-end
-        1
-        (emit b (S .rest))
-        (omega (arith, subject-long, two-size h))
-        first-words
-        (S .around)
-        (S .wide)
-        (S .placed)
-        (S .well-formed)
-        (first-scoped h depth (S .scoped))
-        (omega (arith, two-levels h, S .deep))
+        at-end 1 (emit b (S .rest)) (omega (arith, subject-long, two-size h)) first-words (S .around) (S .wide) (S .placed)
+        (S .well-formed) (first-scoped h depth (S .scoped)) (omega (arith, two-levels h, S .deep))
 
     pub place-second : (from : ℕ) → from ≡ 1 + size a → length term - length (behind from sub) ≡ suc (length term - length sub) + size a
     place-second from x = omega (arith, further from (omega (arith, subject-long, two-size h)))
 
   pub inside : {a : Term} → e ≡ castdown a → Subject Γ a term (behind 1 sub) places depth
   inside {a} x =
-      at-end
-      1
-      (S .rest)
-      subject-some
-      (ap (drop 1) (S .begins) ∙ unfold emit in ap (λ t. drop 1 (emit t (S .rest))) x)
-      (S .around)
-      (S .wide)
-      (S .placed)
-      (S .well-formed)
-      (unfold Scoped in subst (Scoped depth) x (S .scoped))
+      at-end 1 (S .rest) subject-some (ap (drop 1) (S .begins) ∙ unfold emit in ap (λ t. drop 1 (emit t (S .rest))) x) (S .around)
+      (S .wide) (S .placed) (S .well-formed) (unfold Scoped in subst (Scoped depth) x (S .scoped))
       (unfold levels in omega (arith, ap levels x, S .deep))
 
   pub place-first : length term - length (behind 1 sub) ≡ suc (length term - length sub)
@@ -166,18 +149,8 @@ module _ {Γ : Context} {e : Term} {term sub places : List ℕ} {depth : ℕ} (S
 module _ {Γ : Context} {e a b : Term} {term sub places : List ℕ} {depth : ℕ} (S : Subject Γ e term sub places depth) where
   pub second : (from : ℕ) → Two 0 e a b → from ≡ 1 + size a → Subject Γ b term (behind from sub) places depth
   second from h x =
-      at-end
-      S
-      from
-      (S .rest)
-      (omega (arith, subject-long S, two-size h))
-      (ap (λ n. drop n sub) x ∙ second-words S h)
-      (S .around)
-      (S .wide)
-      (S .placed)
-      (S .well-formed)
-      (second-scoped h depth (S .scoped))
-      (omega (arith, two-levels h, S .deep))
+      at-end S from (S .rest) (omega (arith, subject-long S, two-size h)) (ap (λ n. drop n sub) x ∙ second-words S h) (S .around)
+      (S .wide) (S .placed) (S .well-formed) (second-scoped h depth (S .scoped)) (omega (arith, two-levels h, S .deep))
 
   -- The same under the first part, whose place is written.
   pub under : (from place : ℕ)
@@ -188,18 +161,10 @@ module _ {Γ : Context} {e a b : Term} {term sub places : List ℕ} {depth : ℕ
       → Subject (a ∷ Γ) b term (behind from sub) (set places depth place) (depth + 1)
   unfolding Placed
   under from place h x y t =
-      at-end
-      S
-      from
-      (S .rest)
-      (omega (arith, subject-long S, two-size h))
-      (ap (λ n. drop n sub) x ∙ second-words S h)
-      (omega (arith, S .around))
-      (length-set places depth place ∙ S .wide)
+      at-end S from (S .rest) (omega (arith, subject-long S, two-size h)) (ap (λ n. drop n sub) x ∙ second-words S h)
+      (omega (arith, S .around)) (length-set places depth place ∙ S .wide)
       ((emit b (S .rest), ap (λ n. drop n term) at-place ∙ begins), omega (arith, at-place, subject-long S, two-size h, S .within), others)
-      (env-var (S .well-formed) t)
-      (rw add-one (under-scoped h depth (S .scoped)))
-      (omega (arith, two-levels h, S .deep))
+      (env-var (S .well-formed) t) (rw add-one (under-scoped h depth (S .scoped))) (omega (arith, two-levels h, S .deep))
     where
       at-place : getD (set places depth place) (length Γ) 0 ≡ length term - length sub + 1
       at-place = ap (λ n. getD (set places depth place) n 0) (sym (S .around)) ∙ getD-set-same places depth place 0 (omega (arith, two-levels h, S .deep, S .wide)) ∙ y
@@ -209,15 +174,8 @@ module _ {Γ : Context} {e a b : Term} {term sub places : List ℕ} {depth : ℕ
 
       others : Placed term Γ (set places depth place)
       others =
-          placed-kept
-          term
-          Γ
-          places
-          (set places depth place)
-          depth
-          (omega (arith, S .around))
-          (take-set-le depth places depth place (le-refl depth))
-          (S .placed)
+          placed-kept term Γ places (set places depth place) depth (omega (arith, S .around))
+          (take-set-le depth places depth place (le-refl depth)) (S .placed)
 
 -- A part's own words.
 pub between : {Γ : Context} {e : Term} {term places : List ℕ} {depth : ℕ} (sub : List ℕ) (from n : ℕ)

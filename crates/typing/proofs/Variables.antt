@@ -14,11 +14,12 @@ use Rattle.calculus.specs.Infer.{infer, measure, annotation}
 use Rattle.calculus.proofs.Bridge.{raise-moves, raise-more}
 use Rattle.calculus.proofs.Testing.{fitting, over}
 use Rattle.calculus.proofs.Types as types
+use Rattle.reduction.proofs.Scoping.{scoped-more}
 use Rattle.typing.specs.declared.inference.Inferred.{Inferred}
 use Rattle.typing.specs.Inference.{Subject, Placed, Annotation, Raises, Infers, refuses}
 use Rattle.typing.proofs.Passing.{found}
 use Rattle.typing.proofs.Raising.{raise-size}
-use Rattle.typing.proofs.Rooms.{scoped-more, subject-shallow}
+use Rattle.typing.proofs.Rooms.{subject-shallow}
 use Rattle.typing.proofs.Written.{written-type}
 
 -- A variable's annotation as it stands, outside its own binder.
@@ -93,7 +94,6 @@ module _ {Γ : Context} {i : ℕ} {term sub places : List ℕ} {depth : ℕ} (S 
 
       on : Dec (size (standing Γ i) ≤ L) → Infers (infer L Γ p (var i)) (var i) places depth work top r after places
       on (yes h) =
-          found
-          (ap (measure L p) same ∙ fitting {L = L} p type (omega (arith, long)))
+          found (ap (measure L p) same ∙ fitting {L = L} p type (omega (arith, long)))
           (rw (R .fits h .0) (written-type work type refl (sym long) (R .fits h .1) (omega (arith, long)) refl refl refl))
       on (no n) = rw (same, over {L = L} p type (omega (arith, long))) (refuses (R .over (omega arith)))

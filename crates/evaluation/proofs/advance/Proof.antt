@@ -33,36 +33,17 @@ room c =
     c .step .kept .1 .1 .0 ∙ length-take-le longest (now (start .args .work)) (start .pre .0)
 
 steps : (c : tie.After-step) (x : Term)
-    → Holds
-    (now (c .before .before .before .before .before .before .before .before .before .before .args .work))
-    (c .before .before .before .before .before .before .before .before .before .before .args .count)
-    x
-    → Steps
-    (calculus.step x)
+    → Holds (now (c .before .before .before .before .before .before .before .before .before .before .args .work))
+    (c .before .before .before .before .before .before .before .before .before .before .args .count) x
+    → Steps (calculus.step x)
     (take longest (now (c .before .before .before .before .before .before .before .before .before .before .args .work)))
-    (c .step .result)
-    (c .step .last .1 .1 .0)
+    (c .step .result) (c .step .last .1 .1 .0)
 steps c x h = c .step .ensures x (copy-holds (c .before .before .before .before .before) x h .front)
-
-slice-reshare-prefix-copy : tie.Need-slice-reshare-prefix-copy
-slice-reshare-prefix-copy c = search needs
-
-slice-aggregate-copy : tie.Need-slice-aggregate-copy
-slice-aggregate-copy c = sym (spells-length (held-spells (c .before .before .before .pre .2 .1)))
-
-copy-requires : tie.Need-copy-requires
-copy-requires c κs = search needs
-
-slice-reshare-prefix-step : tie.Need-slice-reshare-prefix-step
-slice-reshare-prefix-step c = search needs
 
 slice-aggregate-step : tie.Need-slice-aggregate-step
 slice-aggregate-step c =
     let (x, h) = c .before .before .before .before .before .before .before .before .pre .2 in
     sym (spells-length (held-spells (copy-holds (c .before .before .before) x h)))
-
-slice-relend-prefix-step : tie.Need-slice-relend-prefix-step
-slice-relend-prefix-step c = search needs
 
 slice-aggregate-step-2 : tie.Need-slice-aggregate-step-2
 slice-aggregate-step-2 c =
@@ -74,26 +55,11 @@ step-requires c κs =
     let (x, h) = c .before .before .before .before .before .before .before .before .before .pre .2 in
     spells-codes (held-spells (copy-holds (c .before .before .before .before) x h))
 
-enum-told : tie.Need-enum-told
-enum-told c = search needs
-
-slice-reshare-prefix-copy-2 : tie.Need-slice-reshare-prefix-copy-2
-slice-reshare-prefix-copy-2 c = search needs
-
 slice-aggregate-copy-2 : tie.Need-slice-aggregate-copy-2
 slice-aggregate-copy-2 c =
     let copy = c .before .before .before .before .before .before .before .before .before .before in
     let (x, h) = copy .before .before .before .before .before .pre .2 in
     sym (spells-length (held-spells (copy-holds copy x h)))
-
-copy-requires-2 : tie.Need-copy-requires-2
-copy-requires-2 c κs = search needs
-
-same-length : tie.Need-same-length
-same-length c = search needs
-
-same-length-2 : tie.Need-same-length-2
-same-length-2 c = search needs
 
 returns : tie.Need-returns
 returns c x h =
@@ -105,21 +71,9 @@ returns c x h =
     let long : longest ≤ length (step .step .last .1 .1 .0 ++ drop longest (now (start .args .work))) =
     omega (arith, room step, length-append (step .step .last .1 .1 .0) (drop longest (now (start .args .work))))
     in
-    restored
-    (start .pre .0)
-    h
-    (step .step .last .1 .1 .0)
-    (room step)
-    (steps step x h)
-    (c .before .before .before .before .before .enum-told .given .1)
-    (copied-held (again .ensures) back long)
+    restored (start .pre .0) h (step .step .last .1 .1 .0) (room step) (steps step x h)
+    (c .before .before .before .before .before .enum-told .given .1) (copied-held (again .ensures) back long)
     (copied-behind (again .ensures) back long)
-
-same-length-3 : tie.Need-same-length-3
-same-length-3 c = search needs
-
-same-length-4 : tie.Need-same-length-4
-same-length-4 c = search needs
 
 returns-2 : tie.Need-returns-2
 returns-2 c x h =
@@ -132,21 +86,7 @@ pub advance-spec : {M : Type 1} → statement M
 advance-spec =
     tie.close
     (tie.spec
-    slice-reshare-prefix-copy
-    slice-aggregate-copy
-    copy-requires
-    slice-reshare-prefix-step
-    slice-aggregate-step
-    slice-relend-prefix-step
-    slice-aggregate-step-2
-    step-requires
-    enum-told
-    slice-reshare-prefix-copy-2
-    slice-aggregate-copy-2
-    copy-requires-2
-    same-length
-    same-length-2
-    returns
-    same-length-3
-    same-length-4
-    returns-2)
+    (λ c. search needs) (λ c. sym (spells-length (held-spells (c .before .before .before .pre .2 .1)))) (λ c κs. search needs)
+    (λ c. search needs) slice-aggregate-step (λ c. search needs) slice-aggregate-step-2 step-requires (λ c. search needs)
+    (λ c. search needs) slice-aggregate-copy-2 (λ c κs. search needs) (λ c. search needs) (λ c. search needs) returns
+    (λ c. search needs) (λ c. search needs) returns-2)

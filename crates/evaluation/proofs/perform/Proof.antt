@@ -44,19 +44,13 @@ module _ (c : tie.After-advance Inv-loop μ-loop) (t : Term)
     (r : Readable t) where
   reached : Reaches
       (c .before .before .before .before .before .before .before .before .before .before .before .args .grant)
-      (c .before .before .before .before .loop .taken)
-      t
-      (c .before .before .before .before .loop .work)
+      (c .before .before .before .before .loop .taken) t (c .before .before .before .before .loop .work)
       (c .before .before .before .before .loop .count)
   reached = c .before .before .before .before .loop .inv .4 t e r
 
   advances : Advances
-      (calculus.step (reached .state))
-      (c .before .before .before .before .loop .work)
-      (c .before .before .before .before .loop .count)
-      (reached .state)
-      (c .advance .result)
-      (c .advance .last .0)
+      (calculus.step (reached .state)) (c .before .before .before .before .loop .work)
+      (c .before .before .before .before .loop .count) (reached .state) (c .advance .result) (c .advance .last .0)
   advances = c .advance .ensures (reached .state) (reached .holds)
 
   stops : {s : Stepped} {E : End}
@@ -68,18 +62,8 @@ module _ (c : tie.After-advance Inv-loop μ-loop) (t : Term)
       (record { end = E; steps = c .before .before .before .before .loop .taken; length = c .before .before .before .before .loop .count })
       (c .advance .last .0)
   stops o told =
-      performs-stop
-      reached
-      (omega arith)
-      (c .advance .result)
-      (c .advance .last .0)
-      advances
-      o
-      told
+      performs-stop reached (omega arith) (c .advance .result) (c .advance .last .0) advances o told
       (behind (c .before .before .before .before))
-
-copy-requires : tie.Need-copy-requires Inv-loop μ-loop
-copy-requires c κs = search needs
 
 loop-holds : tie.Need-loop-holds Inv-loop μ-loop
 loop-holds c =
@@ -91,9 +75,6 @@ loop-holds c =
       λ t e r. reaches-first (copied-held (c .before .before .copy .ensures) (readable-spells (now (start .args .term)) e r) (start .pre .0)),
     )
 
-slice-aggregate-advance : tie.Need-slice-aggregate-advance Inv-loop μ-loop
-slice-aggregate-advance c = sym (c .before .before .before .loop .inv .2)
-
 advance-requires : tie.Need-advance-requires Inv-loop μ-loop
 advance-requires c κs =
     let loop = c .before .before .before in
@@ -103,41 +84,14 @@ advance-requires c κs =
     let long : longest ≤ length (loop .loop .work) = omega (arith, loop .loop .inv .1, loop .before .before .before .copy .kept .1 .0) in
     (long, loop .loop .inv .2, (h .state, h .holds))
 
-enum-told : tie.Need-enum-told Inv-loop μ-loop
-enum-told c = search needs
-
-same-length : tie.Need-same-length Inv-loop μ-loop
-same-length c = search needs
-
 returns : tie.Need-returns Inv-loop μ-loop
 returns c t e r = stops (c .before .before .before .before .before) t e r stops-value (c .enum-told .given .1)
-
-enum-told-2 : tie.Need-enum-told-2 Inv-loop μ-loop
-enum-told-2 c = search needs
-
-same-length-2 : tie.Need-same-length-2 Inv-loop μ-loop
-same-length-2 c = search needs
 
 returns-2 : tie.Need-returns-2 Inv-loop μ-loop
 returns-2 c t e r = stops (c .before .before .before .before .before) t e r stops-stuck (c .enum-told2 .given .1)
 
-enum-told-3 : tie.Need-enum-told-3 Inv-loop μ-loop
-enum-told-3 c = search needs
-
-same-length-3 : tie.Need-same-length-3 Inv-loop μ-loop
-same-length-3 c = search needs
-
 returns-3 : tie.Need-returns-3 Inv-loop μ-loop
 returns-3 c t e r = stops (c .before .before .before .before .before) t e r stops-long (c .enum-told3 .given .1)
-
-enum-known-next : tie.Need-enum-known-next Inv-loop μ-loop
-enum-known-next c = search needs
-
-add-taken : tie.Need-add-taken Inv-loop μ-loop
-add-taken c = omega arith
-
-loop-less : tie.Need-loop-less Inv-loop μ-loop
-loop-less c = omega arith
 
 loop-again : tie.Need-loop-again Inv-loop μ-loop
 loop-again c =
@@ -149,17 +103,9 @@ loop-again c =
       turn .advance .kept .1 .0 ∙ inv .2,
       turn-behind (reached turn t e r) (omega arith) (turn .advance .result) (turn .advance .last .0) (advances turn t e r) ∙ inv .3,
       λ t e r.
-          reaches-next
-          (reached turn t e r)
-          (omega arith)
-          (turn .advance .result)
-          (turn .advance .last .0)
-          (advances turn t e r)
+          reaches-next (reached turn t e r) (omega arith) (turn .advance .result) (turn .advance .last .0) (advances turn t e r)
           (c .before .next .given .1),
     )
-
-same-length-4 : tie.Need-same-length-4 Inv-loop μ-loop
-same-length-4 c = search needs
 
 returns-4 : tie.Need-returns-4 Inv-loop μ-loop
 returns-4 c t e r = performs-spent (c .before .loop .inv .4 t e r) (omega arith) (behind (c .before))
@@ -168,24 +114,7 @@ pub perform-spec : {M : Type 1} → statement M
 perform-spec =
     tie.close
     (tie.spec
-    Inv-loop
-    μ-loop
-    copy-requires
-    loop-holds
-    slice-aggregate-advance
-    advance-requires
-    enum-told
-    same-length
-    returns
-    enum-told-2
-    same-length-2
-    returns-2
-    enum-told-3
-    same-length-3
-    returns-3
-    enum-known-next
-    add-taken
-    loop-less
-    loop-again
-    same-length-4
+    Inv-loop μ-loop (λ c κs. search needs) loop-holds (λ c. sym (c .before .before .before .loop .inv .2)) advance-requires
+    (λ c. search needs) (λ c. search needs) returns (λ c. search needs) (λ c. search needs) returns-2 (λ c. search needs)
+    (λ c. search needs) returns-3 (λ c. search needs) (λ c. omega arith) (λ c. omega arith) loop-again (λ c. search needs)
     returns-4)

@@ -25,8 +25,7 @@ term-read : (c : tie.After-enum-told)
     × (now (c .before .before .before .before .before .before .before .before .args .term) ≡ words t)
     × Readable t
 term-read c =
-    readable
-    (now (c .before .before .before .before .before .before .before .before .args .term))
+    readable (now (c .before .before .before .before .before .before .before .before .args .term))
     (sym (ap reading-of (c .enum-told .given .1)) ∙ c .before .before .read .ensures)
 
 -- The grant.
@@ -46,17 +45,14 @@ performed : (c : tie.After-perform)
     (c .before .before .before .before .before .before .before .before .before .before .before .before .args .desk .allowance))
     (term-read (c .before .before .before .before) .0))
     (now (c .before .before .before .before .before .before .before .before .before .before .before .before .args .work))
-    (c .perform .result)
-    (c .perform .last .1 .1 .0)
+    (c .perform .result) (c .perform .last .1 .1 .0)
 performed c =
     let (t, e, r) = term-read (c .before .before .before .before) in
     subst
     (λ g.
-    Performs
-    (run-from g t)
+    Performs (run-from g t)
     (now (c .before .before .before .before .before .before .before .before .before .before .before .before .args .work))
-    (c .perform .result)
-    (c .perform .last .1 .1 .0))
+    (c .perform .result) (c .perform .last .1 .1 .0))
     (granted (c .before .before))
     (c .perform .ensures t e r)
 
@@ -71,12 +67,6 @@ returns-2 c =
     let refusal = state-refused (c .before .if1 .left) (c .if2 .taken) in
     meets-runs (now (a .term)) (a .budget) (a .desk .allowance) (now (a .work)) (now (a .state)) refusal
 
-read-requires : tie.Need-read-requires
-read-requires c κs = search needs
-
-enum-known-refusal : tie.Need-enum-known-refusal
-enum-known-refusal c = search needs
-
 returns-3 : tie.Need-returns-3
 returns-3 c =
     let read = c .before .before .before in
@@ -85,9 +75,6 @@ returns-3 c =
     let e = unreadable (now (a .term)) (c .before .refusal .given .0 .0) told in
     let refusal = unread (read .before .before .if1 .left) (read .before .if2 .left) e in
     meets-runs (now (a .term)) (a .budget) (a .desk .allowance) (now (a .work)) (now (a .state)) refusal
-
-enum-told : tie.Need-enum-told
-enum-told c = search needs
 
 perform-requires : tie.Need-perform-requires
 perform-requires c κs =
@@ -111,12 +98,6 @@ settle-requires c κs =
       (run-from (min (a .budget) (a .desk .allowance)) t .state, performed perform .holds),
     )
 
-same-length : tie.Need-same-length
-same-length c = search needs
-
-same-length-2 : tie.Need-same-length-2
-same-length-2 c = search needs
-
 returns-4 : tie.Need-returns-4
 returns-4 c =
     let settle = c .before .before .before .before in
@@ -132,14 +113,5 @@ pub run-spec : {M : Type 1} → statement M
 run-spec =
     tie.close
     (tie.spec
-    returns
-    returns-2
-    read-requires
-    enum-known-refusal
-    returns-3
-    enum-told
-    perform-requires
-    settle-requires
-    same-length
-    same-length-2
-    returns-4)
+    returns returns-2 (λ c κs. search needs) (λ c. search needs) returns-3 (λ c. search needs) perform-requires settle-requires
+    (λ c. search needs) (λ c. search needs) returns-4)

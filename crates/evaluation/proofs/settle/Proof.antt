@@ -8,28 +8,10 @@ use Rattle.evaluation.proofs.States.{held-spells, copied-begun}
 use Rattle.evaluation.proofs.settle.Statement.{statement}
 use Rattle.evaluation.proofs.settle.Tie as tie
 
-slice-reshare-prefix-copy : tie.Need-slice-reshare-prefix-copy
-slice-reshare-prefix-copy c = search needs
-
 slice-aggregate-copy : tie.Need-slice-aggregate-copy
 slice-aggregate-copy c =
     let h = c .before .before .before .pre .3 .1 in
     simp length-take (omega (arith, h .extent, h .short))
-
-copy-requires : tie.Need-copy-requires
-copy-requires c κs = search needs
-
-clear-requires : tie.Need-clear-requires
-clear-requires c κs = search needs
-
-sub-t18 : tie.Need-sub-t18
-sub-t18 c = search needs
-
-same-length : tie.Need-same-length
-same-length c = search needs
-
-same-length-2 : tie.Need-same-length-2
-same-length-2 c = search needs
 
 returns : tie.Need-returns
 returns c x h =
@@ -44,11 +26,5 @@ pub settle-spec : {M : Type 1} → statement M
 settle-spec =
     tie.close
     (tie.spec
-    slice-reshare-prefix-copy
-    slice-aggregate-copy
-    copy-requires
-    clear-requires
-    sub-t18
-    same-length
-    same-length-2
-    returns)
+    (λ c. search needs) slice-aggregate-copy (λ c κs. search needs) (λ c κs. search needs) (λ c. search needs) (λ c. search needs)
+    (λ c. search needs) returns)

@@ -39,7 +39,8 @@ same-length-2 c = search needs
 returns : tie.Need-returns
 returns c =
     let k = c .before .before .before .before .before .before .before .before .run in
-    (ended-numbers (k .result) (k .ensures .0) _ _ _ (c .before .before .answer .given .1) (c .number-of-end .ensures), demand3 .0 _ _ _ _ _)
+    let numbered = ended-numbers (k .result) (k .ensures .0) _ _ _ (c .before .before .answer .given .1) (c .number-of-end .ensures) in
+    (numbered, (_, numbered, demand3 .0 _ _ _ _ _))
 
 same-length-3 : tie.Need-same-length-3
 same-length-3 c = search needs
@@ -50,7 +51,8 @@ same-length-4 c = search needs
 returns-2 : tie.Need-returns-2
 returns-2 c =
     let k = c .before .before .before .before .before .before .before .before .before .run in
-    (unrun-numbers (k .result) (k .ensures .0) _ _ (c .before .before .before .answer2 .given .1) (c .before .number .ensures), demand3 .0 _ _ _ _ _)
+    let numbered = unrun-numbers (k .result) (k .ensures .0) _ _ (c .before .before .before .answer2 .given .1) (c .before .number .ensures) in
+    (numbered, (_, numbered, demand3 .0 _ _ _ _ _))
 
 pub feguavy-run-spec : {M : Type 1} → statement M
 feguavy-run-spec =

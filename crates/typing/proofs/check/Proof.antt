@@ -16,39 +16,18 @@ use Rattle.typing.proofs.Checking.{Admitted, Asked, refused-out, unread
 use Rattle.typing.proofs.check.Statement.{statement}
 use Rattle.typing.proofs.check.Tie as tie
 
-refused-requires : tie.Need-refused-requires
-refused-requires c κs = search needs
-
 returns : tie.Need-returns
 returns c = refused-out (c .refused .ensures) (limit-refused (λ h. omega arith))
-
-refused-requires-2 : tie.Need-refused-requires-2
-refused-requires-2 c κs = search needs
 
 returns-2 : tie.Need-returns-2
 returns-2 c = refused-out (c .refused2 .ensures) (limit-refused (λ h. omega arith))
 
-mul-if3 : tie.Need-mul-if3
-mul-if3 c = search needs
-
-refused-requires-3 : tie.Need-refused-requires-3
-refused-requires-3 c κs = search needs
-
 returns-3 : tie.Need-returns-3
 returns-3 c = refused-out (c .refused3 .ensures) (work-refused (omega arith) (c .before .if3 .taken))
-
-refused-requires-4 : tie.Need-refused-requires-4
-refused-requires-4 c κs = search needs
 
 returns-4 : tie.Need-returns-4
 returns-4 c =
     refused-out (c .refused4 .ensures) (output-refused (omega arith) (c .before .before .if3 .left) (c .before .if4 .taken))
-
-read-requires : tie.Need-read-requires
-read-requires c κs = search needs
-
-enum-known-refusal : tie.Need-enum-known-refusal
-enum-known-refusal c = search needs
 
 -- Past the tests of the call.
 admitted : (c : tie.Else4)
@@ -63,9 +42,6 @@ returns-5 c =
     let ws = r .before .before .before .before .before .before .before .before .args .term .now in
     unread-out ws (f .0 .0) (admitted (r .before)) (sym (ap reading-of (f .1)) ∙ r .read .ensures)
 
-enum-told : tie.Need-enum-told
-enum-told c = search needs
-
 -- Past reading.
 term-read : (c : tie.After-enum-told)
     → let ws = c .before .before .before .before .before .before .before .before .before .before .args .term .now in
@@ -74,12 +50,6 @@ term-read c =
     let r = c .before .before in
     let ws = r .before .before .before .before .before .before .before .before .args .term .now in
     reads-term ws (sym (r .read .ensures) ∙ ap reading-of (c .enum-told .given .1))
-
-mul-room : tie.Need-mul-room
-mul-room c = search needs
-
-slice-relend-prefix-infer : tie.Need-slice-relend-prefix-infer
-slice-relend-prefix-infer c = search needs
 
 slice-aggregate-infer : tie.Need-slice-aggregate-infer
 slice-aggregate-infer c =
@@ -114,40 +84,13 @@ asked c =
       kept = c .infer .kept .1 .1 .1 .1 .0;
     }
 
-enum-known-refusal-2 : tie.Need-enum-known-refusal-2
-enum-known-refusal-2 c = search needs
-
-clear-requires : tie.Need-clear-requires
-clear-requires c κs = search needs
-
-enum-known-length : tie.Need-enum-known-length
-enum-known-length c = search needs
-
 slice-reshare-prefix-copy : tie.Need-slice-reshare-prefix-copy
 slice-reshare-prefix-copy c = type-within (asked (c .before .before .before .before .before)) (c .before .length .given .1)
-
-slice-aggregate-copy : tie.Need-slice-aggregate-copy
-slice-aggregate-copy c = sym (length-take-le _ _ (slice-reshare-prefix-copy (c .before)))
-
-copy-requires : tie.Need-copy-requires
-copy-requires c κs = search needs
-
-clear-requires-2 : tie.Need-clear-requires-2
-clear-requires-2 c κs = search needs
-
-same-length : tie.Need-same-length
-same-length c = search needs
 
 returns-6 : tie.Need-returns-6
 returns-6 c =
     let f = c .before .before .before .before .before in
     untyped-out (asked (f .before .before .before .before)) (f .refusal2 .given .1) (c .before .before .clear .ensures)
-
-same-length-2 : tie.Need-same-length-2
-same-length-2 c = search needs
-
-same-length-3 : tie.Need-same-length-3
-same-length-3 c = search needs
 
 returns-7 : tie.Need-returns-7
 returns-7 c =
@@ -159,32 +102,8 @@ pub check-spec : {M : Type 1} → statement M
 check-spec =
     tie.close
     (tie.spec
-    refused-requires
-    returns
-    refused-requires-2
-    returns-2
-    mul-if3
-    refused-requires-3
-    returns-3
-    refused-requires-4
-    returns-4
-    read-requires
-    enum-known-refusal
-    returns-5
-    enum-told
-    mul-room
-    slice-relend-prefix-infer
-    slice-aggregate-infer
-    infer-requires
-    enum-known-refusal-2
-    clear-requires
-    enum-known-length
-    slice-reshare-prefix-copy
-    slice-aggregate-copy
-    copy-requires
-    clear-requires-2
-    same-length
-    returns-6
-    same-length-2
-    same-length-3
-    returns-7)
+    (λ c κs. search needs) returns (λ c κs. search needs) returns-2 (λ c. search needs) (λ c κs. search needs) returns-3
+    (λ c κs. search needs) returns-4 (λ c κs. search needs) (λ c. search needs) returns-5 (λ c. search needs) (λ c. search needs)
+    (λ c. search needs) slice-aggregate-infer infer-requires (λ c. search needs) (λ c κs. search needs) (λ c. search needs)
+    slice-reshare-prefix-copy (λ c. sym (length-take-le _ _ (slice-reshare-prefix-copy (c .before)))) (λ c κs. search needs)
+    (λ c κs. search needs) (λ c. search needs) returns-6 (λ c. search needs) (λ c. search needs) returns-7)

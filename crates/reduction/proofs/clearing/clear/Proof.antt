@@ -41,9 +41,6 @@ part-is-clear-start c = omega arith
 part-is-clear-end : tie.Need-part-is-clear-end Inv-loop μ-loop
 part-is-clear-end c = omega arith
 
-is-clear-requires : tie.Need-is-clear-requires Inv-loop μ-loop
-is-clear-requires c κs = search needs
-
 mul-fill : tie.Need-mul-fill Inv-loop μ-loop
 mul-fill c = omega arith
 
@@ -55,9 +52,6 @@ part-fill-start c = omega arith
 
 part-fill-end : tie.Need-part-fill-end Inv-loop μ-loop
 part-fill-end c = omega arith
-
-fill-requires : tie.Need-fill-requires Inv-loop μ-loop
-fill-requires c κs = search needs
 
 add-block : tie.Need-add-block Inv-loop μ-loop
 add-block c = omega arith
@@ -93,23 +87,6 @@ pub clear-spec : {M : Type 1} → statement M
 clear-spec =
     tie.close
     (tie.spec
-    Inv-loop
-    μ-loop
-    loop-holds
-    mul-from
-    add-to
-    mul-is-clear
-    sub-is-clear
-    part-is-clear-start
-    part-is-clear-end
-    is-clear-requires
-    mul-fill
-    sub-fill
-    part-fill-start
-    part-fill-end
-    fill-requires
-    add-block
-    loop-less
-    loop-again
-    same-length
-    returns)
+    Inv-loop μ-loop loop-holds mul-from add-to mul-is-clear sub-is-clear part-is-clear-start part-is-clear-end
+    (λ c κs. search needs) mul-fill sub-fill part-fill-start part-fill-end (λ c κs. search needs) add-block loop-less loop-again
+    same-length returns)

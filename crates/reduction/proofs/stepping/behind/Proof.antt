@@ -12,24 +12,6 @@ use Rattle.reduction.proofs.stepping.behind.Tie as tie
 returns : tie.Need-returns
 returns c = (sym (c .before .before .pre .1 (c .if1 .taken)), le-refl _)
 
-mul-span : tie.Need-mul-span
-mul-span c = search needs
-
-sub-span : tie.Need-sub-span
-sub-span c = search needs
-
-part-span-start : tie.Need-part-span-start
-part-span-start c = search needs
-
-part-span-end : tie.Need-part-span-end
-part-span-end c = search needs
-
-span-requires : tie.Need-span-requires
-span-requires c κs = search needs
-
-add-result : tie.Need-add-result
-add-result c = search needs
-
 returns-2 : tie.Need-returns-2
 returns-2 c =
     let a = c .before .before .before .before .args in
@@ -42,11 +24,5 @@ pub behind-spec : {M : Type 1} → statement M
 behind-spec =
     tie.close
     (tie.spec
-    returns
-    mul-span
-    sub-span
-    part-span-start
-    part-span-end
-    span-requires
-    add-result
-    returns-2)
+    returns (λ c. search needs) (λ c. search needs) (λ c. search needs) (λ c. search needs) (λ c κs. search needs)
+    (λ c. search needs) returns-2)

@@ -57,12 +57,6 @@ sub-span c = omega (arith, two-words (c .before .before))
 part-span-start : tie.Need-part-span-start
 part-span-start c = two-words (c .before .before)
 
-part-span-end : tie.Need-part-span-end
-part-span-end c = search needs
-
-span-requires : tie.Need-span-requires
-span-requires c κs = search needs
-
 add-body : tie.Need-add-body
 add-body c = omega (arith, annotation c .within)
 
@@ -75,12 +69,6 @@ sub-span-2 c = omega (arith, annotation c .within)
 part-span-start-2 : tie.Need-part-span-start-2
 part-span-start-2 c = annotation c .within
 
-part-span-end-2 : tie.Need-part-span-end-2
-part-span-end-2 c = search needs
-
-span-requires-2 : tie.Need-span-requires-2
-span-requires-2 c κs = search needs
-
 add-argument : tie.Need-add-argument
 add-argument c = omega (arith, body c .within)
 
@@ -88,30 +76,6 @@ behind-requires : tie.Need-behind-requires
 behind-requires c κs =
     let r = redex (c .before .before .before .before .before .before) in
     (body c .within, λ zero. last _ _ (r .2) (body c .next) (r .3 .alone zero))
-
-mul-replace : tie.Need-mul-replace
-mul-replace c = search needs
-
-sub-replace : tie.Need-sub-replace
-sub-replace c = search needs
-
-part-replace-start : tie.Need-part-replace-start
-part-replace-start c = search needs
-
-part-replace-end : tie.Need-part-replace-end
-part-replace-end c = search needs
-
-mul-replace-2 : tie.Need-mul-replace-2
-mul-replace-2 c = search needs
-
-sub-replace-2 : tie.Need-sub-replace-2
-sub-replace-2 c = search needs
-
-part-replace-start-2 : tie.Need-part-replace-start-2
-part-replace-start-2 c = search needs
-
-part-replace-end-2 : tie.Need-part-replace-end-2
-part-replace-end-2 c = search needs
 
 replace-requires : tie.Need-replace-requires
 unfolding Scoped
@@ -124,9 +88,6 @@ replace-requires c κs =
     (s .pre .0)
     (λ n h. h .0 .1)
     (λ n h. h .1)
-
-same-length : tie.Need-same-length
-same-length c = search needs
 
 returns : tie.Need-returns
 unfolding step under applied
@@ -142,28 +103,7 @@ pub beta-spec : {M : Type 1} → statement M
 beta-spec =
     tie.close
     (tie.spec
-    add-annotation
-    mul-span
-    sub-span
-    part-span-start
-    part-span-end
-    span-requires
-    add-body
-    mul-span-2
-    sub-span-2
-    part-span-start-2
-    part-span-end-2
-    span-requires-2
-    add-argument
-    behind-requires
-    mul-replace
-    sub-replace
-    part-replace-start
-    part-replace-end
-    mul-replace-2
-    sub-replace-2
-    part-replace-start-2
-    part-replace-end-2
-    replace-requires
-    same-length
-    returns)
+    add-annotation mul-span sub-span part-span-start (λ c. search needs) (λ c κs. search needs) add-body mul-span-2 sub-span-2
+    part-span-start-2 (λ c. search needs) (λ c κs. search needs) add-argument behind-requires (λ c. search needs)
+    (λ c. search needs) (λ c. search needs) (λ c. search needs) (λ c. search needs) (λ c. search needs) (λ c. search needs)
+    (λ c. search needs) replace-requires (λ c. search needs) returns)

@@ -52,12 +52,6 @@ sub-span c = omega (arith, two-words (c .before .before))
 part-span-start : tie.Need-part-span-start
 part-span-start c = two-words (c .before .before)
 
-part-span-end : tie.Need-part-span-end
-part-span-end c = search needs
-
-span-requires : tie.Need-span-requires
-span-requires c κs = search needs
-
 add-body : tie.Need-add-body
 add-body c = omega (arith, annotation c .within)
 
@@ -65,18 +59,6 @@ slice-aggregate-copy : tie.Need-slice-aggregate-copy
 slice-aggregate-copy c =
     let s = c .before .before .before .before .before in
     sym (length-take-le (s .args .at) (s .args .state .now) (omega (arith, two-words s)))
-
-copy-requires : tie.Need-copy-requires
-copy-requires c κs = search needs
-
-enum-known-next : tie.Need-enum-known-next
-enum-known-next c = search needs
-
-enum-told : tie.Need-enum-told
-enum-told c = search needs
-
-same-length : tie.Need-same-length
-same-length c = search needs
 
 returns : tie.Need-returns
 unfolding step under cancelled
@@ -96,14 +78,8 @@ sub-finish c = omega (arith, annotation (c .before .before .before .before .befo
 part-finish-start : tie.Need-part-finish-start
 part-finish-start c = omega (arith, annotation (c .before .before .before .before .before .before .before .before) .within)
 
-part-finish-end : tie.Need-part-finish-end
-part-finish-end c = search needs
-
 finish-requires : tie.Need-finish-requires
 finish-requires c κs = next-within (front (c .before .before .before))
-
-same-length-2 : tie.Need-same-length-2
-same-length-2 c = search needs
 
 returns-2 : tie.Need-returns-2
 unfolding step under cancelled
@@ -120,23 +96,6 @@ pub cancel-spec : {M : Type 1} → statement M
 cancel-spec =
     tie.close
     (tie.spec
-    add-annotation
-    mul-span
-    sub-span
-    part-span-start
-    part-span-end
-    span-requires
-    add-body
-    slice-aggregate-copy
-    copy-requires
-    enum-known-next
-    enum-told
-    same-length
-    returns
-    mul-finish
-    sub-finish
-    part-finish-start
-    part-finish-end
-    finish-requires
-    same-length-2
-    returns-2)
+    add-annotation mul-span sub-span part-span-start (λ c. search needs) (λ c κs. search needs) add-body slice-aggregate-copy
+    (λ c κs. search needs) (λ c. search needs) (λ c. search needs) (λ c. search needs) returns mul-finish sub-finish
+    part-finish-start (λ c. search needs) finish-requires (λ c. search needs) returns-2)

@@ -11,9 +11,6 @@ use Rattle.reduction.proofs.Deciding.{heads-within, found, found-framed
 use Rattle.reduction.proofs.stepping.find_redex.Statement.{statement}
 use Rattle.reduction.proofs.stepping.find_redex.Tie as tie
 
-leading-requires : tie.Need-leading-requires
-leading-requires c κs = search needs
-
 inside : (c : tie.After-leading) → c .leading .result < length (c .before .before .args .state .now)
 inside c = heads-within (c .before .before .pre) (c .leading .ensures)
 
@@ -22,12 +19,6 @@ mul-classify c = omega (arith, inside c)
 
 shared-slice-read-classify : tie.Need-shared-slice-read-classify
 shared-slice-read-classify c = inside (c .before)
-
-classify-requires : tie.Need-classify-requires
-classify-requires c κs = search needs
-
-enum-told : tie.Need-enum-told
-enum-told c = search needs
 
 returns : tie.Need-returns
 returns c =
@@ -41,9 +32,6 @@ returns c =
     (λ _. (refl, (refl, tt)))
     (λ n. absurd (n (c .if1 .taken)))
 
-enum-told-2 : tie.Need-enum-told-2
-enum-told-2 c = search needs
-
 returns-2 : tie.Need-returns-2
 returns-2 c =
     let m = c .before .before .before .classify in
@@ -56,23 +44,11 @@ returns-2 c =
     (λ _. (refl, tt))
     (λ n. absurd (n (c .if2 .taken)))
 
-sub-classify : tie.Need-sub-classify
-sub-classify c = search needs
-
 mul-classify-2 : tie.Need-mul-classify-2
 mul-classify-2 c = omega (arith, inside (c .before .before .before .before .before))
 
 shared-slice-read-classify-2 : tie.Need-shared-slice-read-classify-2
 shared-slice-read-classify-2 c = omega (arith, inside (c .before .before .before .before .before .before))
-
-classify-requires-2 : tie.Need-classify-requires-2
-classify-requires-2 c κs = search needs
-
-enum-told-3 : tie.Need-enum-told-3
-enum-told-3 c = search needs
-
-sub-t15 : tie.Need-sub-t15
-sub-t15 c = search needs
 
 returns-3 : tie.Need-returns-3
 returns-3 c =
@@ -91,9 +67,6 @@ returns-3 c =
     (c .before .before .before .before .if2 .left)
     (((refl, tt), tt))
 
-enum-told-4 : tie.Need-enum-told-4
-enum-told-4 c = search needs
-
 returns-4 : tie.Need-returns-4
 returns-4 c =
     let m = c .before .before .before .classify in
@@ -106,23 +79,11 @@ returns-4 c =
     (λ _. (refl, tt))
     (λ n. absurd (n (c .if3 .taken)))
 
-sub-classify-2 : tie.Need-sub-classify-2
-sub-classify-2 c = search needs
-
 mul-classify-3 : tie.Need-mul-classify-3
 mul-classify-3 c = omega (arith, inside (c .before .before .before .before .before))
 
 shared-slice-read-classify-3 : tie.Need-shared-slice-read-classify-3
 shared-slice-read-classify-3 c = omega (arith, inside (c .before .before .before .before .before .before))
-
-classify-requires-3 : tie.Need-classify-requires-3
-classify-requires-3 c κs = search needs
-
-enum-told-5 : tie.Need-enum-told-5
-enum-told-5 c = search needs
-
-sub-t22 : tie.Need-sub-t22
-sub-t22 c = search needs
 
 returns-5 : tie.Need-returns-5
 returns-5 c =
@@ -215,32 +176,8 @@ pub find-redex-spec : {M : Type 1} → statement M
 find-redex-spec =
     tie.close
     (tie.spec
-    leading-requires
-    mul-classify
-    shared-slice-read-classify
-    classify-requires
-    enum-told
-    returns
-    enum-told-2
-    returns-2
-    sub-classify
-    mul-classify-2
-    shared-slice-read-classify-2
-    classify-requires-2
-    enum-told-3
-    sub-t15
-    returns-3
-    enum-told-4
-    returns-4
-    sub-classify-2
-    mul-classify-3
-    shared-slice-read-classify-3
-    classify-requires-3
-    enum-told-5
-    sub-t22
-    returns-5
-    returns-6
-    returns-7
-    returns-8
-    returns-9
-    returns-10)
+    (λ c κs. search needs) mul-classify shared-slice-read-classify (λ c κs. search needs) (λ c. search needs) returns
+    (λ c. search needs) returns-2 (λ c. search needs) mul-classify-2 shared-slice-read-classify-2 (λ c κs. search needs)
+    (λ c. search needs) (λ c. search needs) returns-3 (λ c. search needs) returns-4 (λ c. search needs) mul-classify-3
+    shared-slice-read-classify-3 (λ c κs. search needs) (λ c. search needs) (λ c. search needs) returns-5 returns-6 returns-7
+    returns-8 returns-9 returns-10)

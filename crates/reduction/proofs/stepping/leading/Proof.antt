@@ -25,15 +25,6 @@ abbrev μ-loop : tie.MeasureT-loop
 loop-holds : tie.Need-loop-holds Inv-loop μ-loop
 loop-holds c = omega arith
 
-mul-classify : tie.Need-mul-classify Inv-loop μ-loop
-mul-classify c = search needs
-
-shared-slice-read-classify : tie.Need-shared-slice-read-classify Inv-loop μ-loop
-shared-slice-read-classify c = search needs
-
-classify-requires : tie.Need-classify-requires Inv-loop μ-loop
-classify-requires c κs = search needs
-
 -- What the count is from the word on that is looked at.
 counted : (c : tie.After-classify Inv-loop μ-loop) (ks : List ℕ) (b : Bool)
     → OneOf ks (tag (c .classify .result))
@@ -53,9 +44,6 @@ returns c =
     omega
     (arith, counted (c .before) (0 ∷ 3 ∷ 4 ∷ 5 ∷ 6 ∷ 7 ∷ 8 ∷ []) false (c .match .keys2) (refl, (refl, (refl, (refl, (refl, (refl, (refl, tt))))))))
 
-add-at : tie.Need-add-at Inv-loop μ-loop
-add-at c = search needs
-
 loop-less : tie.Need-loop-less Inv-loop μ-loop
 loop-less c = omega arith
 
@@ -72,14 +60,5 @@ pub leading-spec : {M : Type 1} → statement M
 leading-spec =
     tie.close
     (tie.spec
-    Inv-loop
-    μ-loop
-    loop-holds
-    mul-classify
-    shared-slice-read-classify
-    classify-requires
-    returns
-    add-at
-    loop-less
-    loop-again
-    returns-2)
+    Inv-loop μ-loop loop-holds (λ c. search needs) (λ c. search needs) (λ c κs. search needs) returns (λ c. search needs) loop-less
+    loop-again returns-2)

@@ -14,18 +14,6 @@ use Rattle.reduction.proofs.stepping.replace.Tie as tie
 slice-aggregate-copy : tie.Need-slice-aggregate-copy
 slice-aggregate-copy c = let s = c .before .before .before .before .before in sym (length-take-le (s .args .at) (s .args .state .now) (s .pre .0))
 
-copy-requires : tie.Need-copy-requires
-copy-requires c κs = search needs
-
-enum-known-from : tie.Need-enum-known-from
-enum-known-from c = search needs
-
-enum-told : tie.Need-enum-told
-enum-told c = search needs
-
-same-length : tie.Need-same-length
-same-length c = search needs
-
 returns : tie.Need-returns
 returns c = arrives-short (lacked-more _ (lacked-more _ (lacked-of (c .before .before .before .before .copy .ensures) (c .enum-told .given .1))))
 
@@ -41,31 +29,10 @@ substitute-requires c κs =
     let p = w .before .before .before .before .before .before .before .before .before .before .before .pre in
     (next-within (front w), p .2, p .3, p .4, p .5)
 
-enum-known-next : tie.Need-enum-known-next
-enum-known-next c = search needs
-
-enum-told-2 : tie.Need-enum-told-2
-enum-told-2 c = search needs
-
-same-length-2 : tie.Need-same-length-2
-same-length-2 c = search needs
-
 returns-2 : tie.Need-returns-2
 returns-2 c =
     let l = lacked-of (c .before .before .before .before .substitute .ensures) (c .enum-told2 .given .1) in
     arrives-short (lacked-more _ (wrote-lacked (front (c .before .before .before .before .before .before .before)) l))
-
-mul-finish : tie.Need-mul-finish
-mul-finish c = search needs
-
-sub-finish : tie.Need-sub-finish
-sub-finish c = search needs
-
-part-finish-start : tie.Need-part-finish-start
-part-finish-start c = search needs
-
-part-finish-end : tie.Need-part-finish-end
-part-finish-end c = search needs
 
 -- And then what the redex steps to.
 middle : (c : tie.After-next)
@@ -83,9 +50,6 @@ middle c = wrote-both (front (c .before .before .before .before .before .before 
 finish-requires : tie.Need-finish-requires
 finish-requires c κs = next-within (middle (c .before .before .before))
 
-same-length-3 : tie.Need-same-length-3
-same-length-3 c = search needs
-
 returns-3 : tie.Need-returns-3
 returns-3 c =
     let w = c .before .before .before .before .before .before in
@@ -96,21 +60,6 @@ pub replace-spec : {M : Type 1} → statement M
 replace-spec =
     tie.close
     (tie.spec
-    slice-aggregate-copy
-    copy-requires
-    enum-known-from
-    enum-told
-    same-length
-    returns
-    substitute-requires
-    enum-known-next
-    enum-told-2
-    same-length-2
-    returns-2
-    mul-finish
-    sub-finish
-    part-finish-start
-    part-finish-end
-    finish-requires
-    same-length-3
-    returns-3)
+    slice-aggregate-copy (λ c κs. search needs) (λ c. search needs) (λ c. search needs) (λ c. search needs) returns
+    substitute-requires (λ c. search needs) (λ c. search needs) (λ c. search needs) returns-2 (λ c. search needs)
+    (λ c. search needs) (λ c. search needs) (λ c. search needs) finish-requires (λ c. search needs) returns-3)

@@ -56,12 +56,6 @@ sub-span c = omega (arith, one-word (c .before .before))
 part-span-start : tie.Need-part-span-start
 part-span-start c = one-word (c .before .before)
 
-part-span-end : tie.Need-part-span-end
-part-span-end c = search needs
-
-span-requires : tie.Need-span-requires
-span-requires c κs = search needs
-
 add-body : tie.Need-add-body
 add-body c = omega (arith, annotation c .within)
 
@@ -70,38 +64,11 @@ behind-requires c κs =
     let r = redex (c .before .before .before .before) in
     (annotation c .within, λ zero. last _ _ (r .1) (annotation c .next) (r .2 .alone zero))
 
-mul-replace : tie.Need-mul-replace
-mul-replace c = search needs
-
-sub-replace : tie.Need-sub-replace
-sub-replace c = search needs
-
-part-replace-start : tie.Need-part-replace-start
-part-replace-start c = search needs
-
-part-replace-end : tie.Need-part-replace-end
-part-replace-end c = search needs
-
-mul-replace-2 : tie.Need-mul-replace-2
-mul-replace-2 c = search needs
-
-sub-replace-2 : tie.Need-sub-replace-2
-sub-replace-2 c = search needs
-
-part-replace-start-2 : tie.Need-part-replace-start-2
-part-replace-start-2 c = search needs
-
-part-replace-end-2 : tie.Need-part-replace-end-2
-part-replace-end-2 c = search needs
-
 replace-requires : tie.Need-replace-requires
 unfolding Scoped
 replace-requires c κs =
     let s = c .before .before .before .before .before .before .before .before in
     replaceable (redex s .2) (body (c .before .before .before)) (recursion (c .before .before .before)) (s .pre .0) (λ n h. h .1) (λ n h. h)
-
-same-length : tie.Need-same-length
-same-length c = search needs
 
 returns : tie.Need-returns
 unfolding step
@@ -117,22 +84,6 @@ pub unfold-spec : {M : Type 1} → statement M
 unfold-spec =
     tie.close
     (tie.spec
-    add-annotation
-    mul-span
-    sub-span
-    part-span-start
-    part-span-end
-    span-requires
-    add-body
-    behind-requires
-    mul-replace
-    sub-replace
-    part-replace-start
-    part-replace-end
-    mul-replace-2
-    sub-replace-2
-    part-replace-start-2
-    part-replace-end-2
-    replace-requires
-    same-length
-    returns)
+    add-annotation mul-span sub-span part-span-start (λ c. search needs) (λ c κs. search needs) add-body behind-requires
+    (λ c. search needs) (λ c. search needs) (λ c. search needs) (λ c. search needs) (λ c. search needs) (λ c. search needs)
+    (λ c. search needs) (λ c. search needs) replace-requires (λ c. search needs) returns)

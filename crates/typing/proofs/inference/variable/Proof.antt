@@ -12,52 +12,10 @@ use Rattle.typing.proofs.Annotated.{annotation-span, annotation-words, 
 use Rattle.typing.proofs.inference.variable.Statement.{statement}
 use Rattle.typing.proofs.inference.variable.Tie as tie
 
-mul-span : tie.Need-mul-span
-mul-span c = search needs
-
-sub-span : tie.Need-sub-span
-sub-span c = search needs
-
-part-span-start : tie.Need-part-span-start
-part-span-start c = search needs
-
-part-span-end : tie.Need-part-span-end
-part-span-end c = search needs
-
-span-requires : tie.Need-span-requires
-span-requires c κs = search needs
-
-refused-requires : tie.Need-refused-requires
-refused-requires c κs = search needs
-
 returns : tie.Need-returns
 returns c = λ a k.
     let long = annotation-span k in
     record { fits = λ h. absurd (omega arith); over = λ h. ap inferred-of (c .refused .ensures) }
-
-add-to : tie.Need-add-to
-add-to c = search needs
-
-add-end : tie.Need-add-end
-add-end c = search needs
-
-mul-raise : tie.Need-mul-raise
-mul-raise c = search needs
-
-sub-raise : tie.Need-sub-raise
-sub-raise c = search needs
-
-part-raise-start : tie.Need-part-raise-start
-part-raise-start c = search needs
-
-part-raise-end : tie.Need-part-raise-end
-part-raise-end c = search needs
-
-add-raise : tie.Need-add-raise
-add-raise c = search needs
-
-slice-relend-prefix-raise : tie.Need-slice-relend-prefix-raise
-slice-relend-prefix-raise c = search needs
 
 slice-aggregate-raise : tie.Need-slice-aggregate-raise
 slice-aggregate-raise c =
@@ -76,49 +34,19 @@ raise-requires c κs =
     let few = annotation-short k in
     rw e (omega arith, words-whole a, omega (arith, words-length a), words-plain a few (k .scoped), omega (arith, k .near))
 
-same-length : tie.Need-same-length
-same-length c = search needs
-
 returns-2 : tie.Need-returns-2
 returns-2 c = λ a k.
     let s = c .before .before .before .before .before .before .before .before .before .before in
     let g = s .args in
     let n = c .before .before .before .before .before .before .span in
     let same : n .result ≡ size a = omega (arith, annotation-span k, n .ensures .0) in
-    raises
-    k
-    (g .place)
-    (g .work .now)
-    (g .top)
-    (g .limit)
-    (n .result)
-    (g .from + n .result - g .from)
-    same
-    (omega arith)
-    (omega arith)
-    (s .pre .1)
-    (c .before .before .raise .ensures)
+    raises k (g .place) (g .work .now) (g .top) (g .limit) (n .result) (g .from + n .result - g .from) same (omega arith)
+    (omega arith) (s .pre .1) (c .before .before .raise .ensures)
 
 pub variable-spec : {M : Type 1} → statement M
 variable-spec =
     tie.close
     (tie.spec
-    mul-span
-    sub-span
-    part-span-start
-    part-span-end
-    span-requires
-    refused-requires
-    returns
-    add-to
-    add-end
-    mul-raise
-    sub-raise
-    part-raise-start
-    part-raise-end
-    add-raise
-    slice-relend-prefix-raise
-    slice-aggregate-raise
-    raise-requires
-    same-length
-    returns-2)
+    (λ c. search needs) (λ c. search needs) (λ c. search needs) (λ c. search needs) (λ c κs. search needs) (λ c κs. search needs)
+    returns (λ c. search needs) (λ c. search needs) (λ c. search needs) (λ c. search needs) (λ c. search needs) (λ c. search needs)
+    (λ c. search needs) (λ c. search needs) slice-aggregate-raise raise-requires (λ c. search needs) returns-2)

@@ -18,30 +18,6 @@ use Rattle.typing.proofs.Lent.{copied, puts}
 use Rattle.typing.proofs.moving.put_in.Statement.{statement}
 use Rattle.typing.proofs.moving.put_in.Tie as tie
 
-add-to : tie.Need-add-to
-add-to c = search needs
-
-mul-copy : tie.Need-mul-copy
-mul-copy c = search needs
-
-sub-copy : tie.Need-sub-copy
-sub-copy c = search needs
-
-part-copy-start : tie.Need-part-copy-start
-part-copy-start c = search needs
-
-part-copy-end : tie.Need-part-copy-end
-part-copy-end c = search needs
-
-slice-aggregate-copy : tie.Need-slice-aggregate-copy
-slice-aggregate-copy c = search needs
-
-copy-requires : tie.Need-copy-requires
-copy-requires c κs = search needs
-
-add-end : tie.Need-add-end
-add-end c = search needs
-
 -- The codomain has room in the local array, which then begins with it.
 short : (c : tie.Start) → c .args .count ≤ longest
 short c = codes-part (c .args .work .now) (c .args .from) (c .args .count) (c .pre .1) (c .pre .2)
@@ -66,9 +42,6 @@ slice-aggregate-substitute c =
     let count = c .before .before .before .before .before .before .before .before .args .count in
     sym (length-take-le count (c .before .before .copy .last .1 .0) (array-share-prefix-codomain (c .before)))
 
-slice-relend-prefix-substitute : tie.Need-slice-relend-prefix-substitute
-slice-relend-prefix-substitute c = search needs
-
 slice-aggregate-substitute-2 : tie.Need-slice-aggregate-substitute-2
 slice-aggregate-substitute-2 c =
     let s = c .before .before .before .before .before .before .before .before .before in
@@ -80,9 +53,6 @@ substitute-requires c κs =
     let room-for = slice-aggregate-substitute-2 c in
     let k = subst (λ x. Codes x false) (sym (begins (c .before .before .before))) (s .pre .2) in
     (omega arith, codes-whole k, omega (arith, codes-short k), codes-plain k, codes-bounded (s .pre .3))
-
-same-length : tie.Need-same-length
-same-length c = search needs
 
 returns : tie.Need-returns
 returns c = λ b u h k.
@@ -99,18 +69,6 @@ pub put-in-spec : {M : Type 1} → statement M
 put-in-spec =
     tie.close
     (tie.spec
-    add-to
-    mul-copy
-    sub-copy
-    part-copy-start
-    part-copy-end
-    slice-aggregate-copy
-    copy-requires
-    add-end
-    array-share-prefix-codomain
-    slice-aggregate-substitute
-    slice-relend-prefix-substitute
-    slice-aggregate-substitute-2
-    substitute-requires
-    same-length
-    returns)
+    (λ c. search needs) (λ c. search needs) (λ c. search needs) (λ c. search needs) (λ c. search needs) (λ c. search needs)
+    (λ c κs. search needs) (λ c. search needs) array-share-prefix-codomain slice-aggregate-substitute (λ c. search needs)
+    slice-aggregate-substitute-2 substitute-requires (λ c. search needs) returns)

@@ -13,27 +13,6 @@ use Rattle.typing.proofs.Lent.{copied}
 use Rattle.typing.proofs.moving.step_type.Statement.{statement}
 use Rattle.typing.proofs.moving.step_type.Tie as tie
 
-add-end : tie.Need-add-end
-add-end c = search needs
-
-mul-copy : tie.Need-mul-copy
-mul-copy c = search needs
-
-sub-copy : tie.Need-sub-copy
-sub-copy c = search needs
-
-part-copy-start : tie.Need-part-copy-start
-part-copy-start c = search needs
-
-part-copy-end : tie.Need-part-copy-end
-part-copy-end c = search needs
-
-slice-aggregate-copy : tie.Need-slice-aggregate-copy
-slice-aggregate-copy c = search needs
-
-copy-requires : tie.Need-copy-requires
-copy-requires c κs = search needs
-
 -- The type has room in the local array, which then begins with it.
 short : (c : tie.Start) → c .args .count ≤ longest
 short c = codes-part (c .args .work .now) (c .args .top) (c .args .count) (c .pre .1) (c .pre .2)
@@ -63,9 +42,6 @@ step-into-requires c κs =
     let s = c .before .before .before .before .before .before .before .before in
     (s .pre .0, subst (λ x. Codes x (s .args .closed)) (sym (begins (c .before .before .before))) (s .pre .2))
 
-same-length : tie.Need-same-length
-same-length c = search needs
-
 returns : tie.Need-returns
 returns c = λ b h. c .before .before .step-into .ensures b (begins (c .before .before .before .before .before .before) ∙ h)
 
@@ -73,15 +49,5 @@ pub step-type-spec : {M : Type 1} → statement M
 step-type-spec =
     tie.close
     (tie.spec
-    add-end
-    mul-copy
-    sub-copy
-    part-copy-start
-    part-copy-end
-    slice-aggregate-copy
-    copy-requires
-    array-share-prefix-copied
-    slice-aggregate-step-into
-    step-into-requires
-    same-length
-    returns)
+    (λ c. search needs) (λ c. search needs) (λ c. search needs) (λ c. search needs) (λ c. search needs) (λ c. search needs)
+    (λ c κs. search needs) array-share-prefix-copied slice-aggregate-step-into step-into-requires (λ c. search needs) returns)

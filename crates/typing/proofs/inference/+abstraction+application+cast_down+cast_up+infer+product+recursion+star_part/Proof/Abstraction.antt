@@ -21,18 +21,6 @@ use Rattle.typing.proofs.inference.+abstraction+application+cast_down+c
 use Rattle.typing.proofs.inference.+abstraction+application+cast_down+cast_up+infer+product+recursion+star_part.Proof.Measures.{abstraction-at, abstraction-claims}
 use Rattle.typing.proofs.inference.+abstraction+application+cast_down+cast_up+infer+product+recursion+star_part.Proof.Abstraction.Known.{reach, copied, skips, both, room}
 
-sub-place : (t : ℕ) → abstraction-lts.Need-sub-place (abstraction-claims t) (abstraction-at t) abstraction.Post
-sub-place t c = search needs
-
-sub-star-part : (t : ℕ) → abstraction-lts.Need-sub-star-part (abstraction-claims t) (abstraction-at t) abstraction.Post
-sub-star-part t c = omega (arith, subject-some (c .before .before .before .pre .1 .3))
-
-part-star-part-start : (t : ℕ) → abstraction-lts.Need-part-star-part-start (abstraction-claims t) (abstraction-at t) abstraction.Post
-part-star-part-start t c = omega (arith, subject-some (c .before .before .before .pre .1 .3))
-
-part-star-part-end : (t : ℕ) → abstraction-lts.Need-part-star-part-end (abstraction-claims t) (abstraction-at t) abstraction.Post
-part-star-part-end t c = search needs
-
 star-part-requires : (t : ℕ) → abstraction-lts.Need-star-part-requires (abstraction-claims t) (abstraction-at t) abstraction.Post
 star-part-requires t c κs =
     let start = c .before .before .before .before .before .before in
@@ -46,51 +34,18 @@ star-part-requires t c κs =
       ),
     )
 
-enum-known-annotation : (t : ℕ) → abstraction-lts.Need-enum-known-annotation (abstraction-claims t) (abstraction-at t) abstraction.Post
-enum-known-annotation t c = search needs
-
-enum-told : (t : ℕ) → abstraction-lts.Need-enum-told (abstraction-claims t) (abstraction-at t) abstraction.Post
-enum-told t c = search needs
-
-same-length : (t : ℕ) → abstraction-lts.Need-same-length (abstraction-claims t) (abstraction-at t) abstraction.Post
-same-length t c = search needs
-
 returns : (t : ℕ) → abstraction-lts.Need-returns (abstraction-claims t) (abstraction-at t) abstraction.Post
 returns t c Γ a e S =
     let after-star-part = c .before .before .before .before in
     passed _ (after-star-part .star-part .ensures Γ a (first S of-lam)) (c .enum-told .given .1) (lam-annotation _ Γ _ _ a e (place-first S))
-
-add-narrow : (t : ℕ) → abstraction-lts.Need-add-narrow (abstraction-claims t) (abstraction-at t) abstraction.Post
-add-narrow t c = search needs
 
 narrow-requires : (t : ℕ) → abstraction-lts.Need-narrow-requires (abstraction-claims t) (abstraction-at t) abstraction.Post
 narrow-requires t c κs =
     let start = c .before .before .before .before .before .before .before .before .before .before .before .before in
     omega (arith, subject-some (start .pre .1 .3), start .pre .1 .3 .within, start .pre .1 .3 .short)
 
-mul-context : (t : ℕ) → abstraction-lts.Need-mul-context (abstraction-claims t) (abstraction-at t) abstraction.Post
-mul-context t c = search needs
-
 element-write-context : (t : ℕ) → abstraction-lts.Need-element-write-context (abstraction-claims t) (abstraction-at t) abstraction.Post
 element-write-context t c = omega (arith, subject-shallow (c .before .before .before .before .before .before .before .before .before .before .before .before .before .pre .1 .3))
-
-add-front : (t : ℕ) → abstraction-lts.Need-add-front (abstraction-claims t) (abstraction-at t) abstraction.Post
-add-front t c = omega (arith, reach t (c .before))
-
-mul-infer : (t : ℕ) → abstraction-lts.Need-mul-infer (abstraction-claims t) (abstraction-at t) abstraction.Post
-mul-infer t c = omega (arith, reach t (c .before .before))
-
-sub-infer : (t : ℕ) → abstraction-lts.Need-sub-infer (abstraction-claims t) (abstraction-at t) abstraction.Post
-sub-infer t c = omega (arith, reach t (c .before .before))
-
-part-infer-start : (t : ℕ) → abstraction-lts.Need-part-infer-start (abstraction-claims t) (abstraction-at t) abstraction.Post
-part-infer-start t c = omega (arith, reach t (c .before .before))
-
-part-infer-end : (t : ℕ) → abstraction-lts.Need-part-infer-end (abstraction-claims t) (abstraction-at t) abstraction.Post
-part-infer-end t c = search needs
-
-add-infer : (t : ℕ) → abstraction-lts.Need-add-infer (abstraction-claims t) (abstraction-at t) abstraction.Post
-add-infer t c = search needs
 
 add-infer-2 : (t : ℕ) → abstraction-lts.Need-add-infer-2 (abstraction-claims t) (abstraction-at t) abstraction.Post
 add-infer-2 t c =
@@ -118,15 +73,6 @@ infer-requires t c κs =
       ),
     )
 
-enum-known-body : (t : ℕ) → abstraction-lts.Need-enum-known-body (abstraction-claims t) (abstraction-at t) abstraction.Post
-enum-known-body t c = search needs
-
-enum-told-2 : (t : ℕ) → abstraction-lts.Need-enum-told-2 (abstraction-claims t) (abstraction-at t) abstraction.Post
-enum-told-2 t c = search needs
-
-same-length-2 : (t : ℕ) → abstraction-lts.Need-same-length-2 (abstraction-claims t) (abstraction-at t) abstraction.Post
-same-length-2 t c = search needs
-
 returns-2 : (t : ℕ) → abstraction-lts.Need-returns-2 (abstraction-claims t) (abstraction-at t) abstraction.Post
 returns-2 t c Γ a e S =
     let after-infer = c .before .before .before .before in
@@ -134,11 +80,9 @@ returns-2 t c Γ a e S =
     let after-annotation = after-narrow .before .before in
     let after-star-part = after-annotation .before .before .before .before in
     let A = typed (after-star-part .star-part .ensures Γ a (first S of-lam)) (after-annotation .annotation .given .1) in
-    passed
-    _
+    passed _
     (after-infer .infer .ensures (a ∷ Γ) e (below S _ A (after-narrow .narrow .result) of-lam (after-narrow .narrow .ensures)))
-    (c .enum-told2 .given .1)
-    (lam-body _ Γ _ _ a e (annotation-found S _ A) (second-place S _ A (of-lam {e = e})))
+    (c .enum-told2 .given .1) (lam-body _ Γ _ _ a e (annotation-found S _ A) (second-place S _ A (of-lam {e = e})))
 
 add-if2 : (t : ℕ) → abstraction-lts.Need-add-if2 (abstraction-claims t) (abstraction-at t) abstraction.Post
 add-if2 t c =
@@ -147,12 +91,6 @@ add-if2 t c =
     let P = start .pre .1 in
     let B = both t c (P .0) (P .1) (P .2) (P .3) in
     omega (arith, B .long, B .fits, P .4 .allowed, reach t after-known-told)
-
-refused-requires : (t : ℕ) → abstraction-lts.Need-refused-requires (abstraction-claims t) (abstraction-at t) abstraction.Post
-refused-requires t c κs = search needs
-
-same-length-3 : (t : ℕ) → abstraction-lts.Need-same-length-3 (abstraction-claims t) (abstraction-at t) abstraction.Post
-same-length-3 t c = search needs
 
 returns-3 : (t : ℕ) → abstraction-lts.Need-returns-3 (abstraction-claims t) (abstraction-at t) abstraction.Post
 unfolding size
@@ -165,15 +103,6 @@ mul-work t c =
     let start = c .before .before .before .before .before .before .before .before .before .before .before .before .before .before .before .before .before .before .before .before .before .before .before .before .before in
     let R = start .pre .1 .4 in omega (arith, R .some, room-two R, start .good .1 .1 .1 .1 .0 .1)
 
-slice-write-work : (t : ℕ) → abstraction-lts.Need-slice-write-work (abstraction-claims t) (abstraction-at t) abstraction.Post
-slice-write-work t c = omega (arith, room t (c .before))
-
-sub-copy : (t : ℕ) → abstraction-lts.Need-sub-copy (abstraction-claims t) (abstraction-at t) abstraction.Post
-sub-copy t c = search needs
-
-part-copy-start : (t : ℕ) → abstraction-lts.Need-part-copy-start (abstraction-claims t) (abstraction-at t) abstraction.Post
-part-copy-start t c = search needs
-
 part-copy-end : (t : ℕ) → abstraction-lts.Need-part-copy-end (abstraction-claims t) (abstraction-at t) abstraction.Post
 part-copy-end t c = omega (arith, reach t (c .before .before .before .before .before .before .before .before .before .before .before .before .before))
 
@@ -181,9 +110,6 @@ add-copy : (t : ℕ) → abstraction-lts.Need-add-copy (abstraction-claims t) (a
 add-copy t c =
     let start = c .before .before .before .before .before .before .before .before .before .before .before .before .before .before .before .before .before .before .before .before .before .before .before .before .before .before .before in
     let R = start .pre .1 .4 in omega (arith, R .some, room-two R, start .good .1 .1 .1 .1 .0 .0)
-
-copy-requires : (t : ℕ) → abstraction-lts.Need-copy-requires (abstraction-claims t) (abstraction-at t) abstraction.Post
-copy-requires t c κs = simp length-set (omega (arith, room t (c .before .before .before)))
 
 add-t16 : (t : ℕ) → abstraction-lts.Need-add-t16 (abstraction-claims t) (abstraction-at t) abstraction.Post
 add-t16 t c =
@@ -226,60 +152,22 @@ returns-4 t c Γ a e S =
     let w = after-infer .infer .last .1 .1 .1 .1 .0 in
     found
     (lam-typed B (omega (arith, B .read, B .long, else2 .if2 .left)))
-    (product-written
-    w
-    a
-    (B .type)
-    (omega (arith, B .read, B .further))
-    (B .read)
-    (B .long)
+    (product-written w a (B .type) (omega (arith, B .read, B .further)) (B .read) (B .long)
     (wrote a (c .before .before .copy .ensures) (copied t after-known-told Γ a e S) (rw (length-set w (start .args .top) 5) (omega (arith, B .read, else2 .if2 .left))))
     (omega (arith, else2 .if2 .left))
-    (ap (λ i. take (after-body .body .given .0 .1 .0) (drop (start .args .top + i) w)) (sym k) ∙ B .lies)
-    (B .front)
-    (B .context)
+    (ap (λ i. take (after-body .body .given .0 .1 .0) (drop (start .args .top + i) w)) (sym k) ∙ B .lies) (B .front) (B .context)
     (B .wide))
 
 pub abstraction-part : (M : Type 1) (t : ℕ) → abstraction-lts.Closed (abstraction-claims t) (abstraction-at t) abstraction.Post M
 abstraction-part M t =
     abstraction-lts.spec (abstraction-claims t) (abstraction-at t) abstraction.Post
-    (sub-place t)
-    (sub-star-part t)
-    (part-star-part-start t)
-    (part-star-part-end t)
-    (star-part-requires t)
-    (enum-known-annotation t)
-    (enum-told t)
-    (same-length t)
-    (returns t)
-    (add-narrow t)
-    (narrow-requires t)
-    (mul-context t)
-    (element-write-context t)
-    (add-front t)
-    (mul-infer t)
-    (sub-infer t)
-    (part-infer-start t)
-    (part-infer-end t)
-    (add-infer t)
-    (add-infer-2 t)
-    (infer-requires t)
-    (enum-known-body t)
-    (enum-told-2 t)
-    (same-length-2 t)
-    (returns-2 t)
-    (add-if2 t)
-    (refused-requires t)
-    (same-length-3 t)
-    (returns-3 t)
-    (mul-work t)
-    (slice-write-work t)
-    (sub-copy t)
-    (part-copy-start t)
-    (part-copy-end t)
-    (add-copy t)
-    (copy-requires t)
-    (add-t16 t)
-    (add-t33 t)
-    (same-length-4 t)
-    (returns-4 t)
+    (λ c. search needs) (λ c. omega (arith, subject-some (c .before .before .before .pre .1 .3)))
+    (λ c. omega (arith, subject-some (c .before .before .before .pre .1 .3))) (λ c. search needs) (star-part-requires t)
+    (λ c. search needs) (λ c. search needs) (λ c. search needs) (returns t) (λ c. search needs) (narrow-requires t)
+    (λ c. search needs) (element-write-context t) (λ c. omega (arith, reach t (c .before)))
+    (λ c. omega (arith, reach t (c .before .before))) (λ c. omega (arith, reach t (c .before .before)))
+    (λ c. omega (arith, reach t (c .before .before))) (λ c. search needs) (λ c. search needs) (add-infer-2 t) (infer-requires t)
+    (λ c. search needs) (λ c. search needs) (λ c. search needs) (returns-2 t) (add-if2 t) (λ c κs. search needs) (λ c. search needs)
+    (returns-3 t) (mul-work t) (λ c. omega (arith, room t (c .before))) (λ c. search needs) (λ c. search needs) (part-copy-end t)
+    (add-copy t) (λ c κs. simp length-set (omega (arith, room t (c .before .before .before)))) (add-t16 t) (add-t33 t)
+    (same-length-4 t) (returns-4 t)

@@ -24,18 +24,6 @@ use Rattle.typing.proofs.inference.+abstraction+application+cast_down+c
 use Rattle.typing.proofs.inference.+abstraction+application+cast_down+cast_up+infer+product+recursion+star_part.Proof.Measures.{application-at, application-claims}
 use Rattle.typing.proofs.inference.+abstraction+application+cast_down+cast_up+infer+product+recursion+star_part.Proof.Application.Known.{reach, calls, long, domain-long, measured, puts}
 
-sub-place : (t : ℕ) → application-lts.Need-sub-place (application-claims t) (application-at t) application.Post
-sub-place t c = search needs
-
-sub-infer : (t : ℕ) → application-lts.Need-sub-infer (application-claims t) (application-at t) application.Post
-sub-infer t c = subject-some (c .before .before .before .pre .1 .3)
-
-part-infer-start : (t : ℕ) → application-lts.Need-part-infer-start (application-claims t) (application-at t) application.Post
-part-infer-start t c = subject-some (c .before .before .before .pre .1 .3)
-
-part-infer-end : (t : ℕ) → application-lts.Need-part-infer-end (application-claims t) (application-at t) application.Post
-part-infer-end t c = search needs
-
 infer-requires : (t : ℕ) → application-lts.Need-infer-requires (application-claims t) (application-at t) application.Post
 infer-requires t c κs =
     let start = c .before .before .before .before .before .before in
@@ -44,36 +32,9 @@ infer-requires t c κs =
       (_, _, first S of-app, roomy-part (start .pre .1 .4) (two-levels of-app .0) refl (omega arith)),
     )
 
-enum-known-function : (t : ℕ) → application-lts.Need-enum-known-function (application-claims t) (application-at t) application.Post
-enum-known-function t c = search needs
-
-enum-told : (t : ℕ) → application-lts.Need-enum-told (application-claims t) (application-at t) application.Post
-enum-told t c = search needs
-
-same-length : (t : ℕ) → application-lts.Need-same-length (application-claims t) (application-at t) application.Post
-same-length t c = search needs
-
 returns : (t : ℕ) → application-lts.Need-returns (application-claims t) (application-at t) application.Post
 returns t c Γ f u S =
     passed _ (c .before .before .before .before .infer .ensures Γ f (first S of-app)) (c .enum-told .given .1) (by-function _ Γ _ f u (place-first S))
-
-mul-classify : (t : ℕ) → application-lts.Need-mul-classify (application-claims t) (application-at t) application.Post
-mul-classify t c = search needs
-
-slice-read-classify : (t : ℕ) → application-lts.Need-slice-read-classify (application-claims t) (application-at t) application.Post
-slice-read-classify t c = search needs
-
-classify-requires : (t : ℕ) → application-lts.Need-classify-requires (application-claims t) (application-at t) application.Post
-classify-requires t c = search needs
-
-enum-told-2 : (t : ℕ) → application-lts.Need-enum-told-2 (application-claims t) (application-at t) application.Post
-enum-told-2 t c = search needs
-
-refused-requires : (t : ℕ) → application-lts.Need-refused-requires (application-claims t) (application-at t) application.Post
-refused-requires t c = search needs
-
-same-length-2 : (t : ℕ) → application-lts.Need-same-length-2 (application-claims t) (application-at t) application.Post
-same-length-2 t c = search needs
 
 returns-2 : (t : ℕ) → application-lts.Need-returns-2 (application-claims t) (application-at t) application.Post
 returns-2 t c Γ f u S =
@@ -83,24 +44,6 @@ returns-2 t c Γ f u S =
     (no-function _ Γ _ f u (function-found S _ function)
     (other-type S _ function λ x. not-product (classify .result) (c .before .match2 .keys2) (classify .ensures ∙ x)))
     (c .refused .ensures)
-
-add-from : (t : ℕ) → application-lts.Need-add-from (application-claims t) (application-at t) application.Post
-add-from t c = record { fits = omega (arith, reach t c) }
-
-add-next : (t : ℕ) → application-lts.Need-add-next (application-claims t) (application-at t) application.Post
-add-next t c = record { fits = omega (arith, reach t c) }
-
-mul-infer : (t : ℕ) → application-lts.Need-mul-infer (application-claims t) (application-at t) application.Post
-mul-infer t c = record { fits = omega (arith, reach t c) }
-
-sub-infer-2 : (t : ℕ) → application-lts.Need-sub-infer-2 (application-claims t) (application-at t) application.Post
-sub-infer-2 t c = reach t c .within
-
-part-infer-start-2 : (t : ℕ) → application-lts.Need-part-infer-start-2 (application-claims t) (application-at t) application.Post
-part-infer-start-2 t c = reach t c .within
-
-part-infer-end-2 : (t : ℕ) → application-lts.Need-part-infer-end-2 (application-claims t) (application-at t) application.Post
-part-infer-end-2 t c = search needs
 
 infer-requires-2 : (t : ℕ) → application-lts.Need-infer-requires-2 (application-claims t) (application-at t) application.Post
 infer-requires-2 t c κs =
@@ -115,30 +58,17 @@ infer-requires-2 t c κs =
         _,
         argument-subject S _ function,
         roomy-part
-            (start .pre .1 .4)
-            (two-levels of-app .1)
+            (start .pre .1 .4) (two-levels of-app .1)
             (after-function .before .before .before .before .before .before .before .before .before .infer .kept .1 .1 .1 .1 .0)
             (omega (arith, function .long, fits)),
       ),
     )
 
-enum-known-argument : (t : ℕ) → application-lts.Need-enum-known-argument (application-claims t) (application-at t) application.Post
-enum-known-argument t c = search needs
-
-enum-told-3 : (t : ℕ) → application-lts.Need-enum-told-3 (application-claims t) (application-at t) application.Post
-enum-told-3 t c = search needs
-
-same-length-3 : (t : ℕ) → application-lts.Need-same-length-3 (application-claims t) (application-at t) application.Post
-same-length-3 t c = search needs
-
 returns-3 : (t : ℕ) → application-lts.Need-returns-3 (application-claims t) (application-at t) application.Post
 returns-3 t c Γ f u S =
     let after-function = c .before .before .before .before .before .before .before .before in
     let function = typed (after-function .before .before .before .before .before .before .before .before .before .infer .ensures Γ f (first S of-app)) (after-function .before .before .before .before .before .function .given .1) in
-    passed
-    _
-    (c .before .before .before .before .infer2 .ensures Γ u (argument-subject S _ function))
-    (c .enum-told3 .given .1)
+    passed _ (c .before .before .before .before .infer2 .ensures Γ u (argument-subject S _ function)) (c .enum-told3 .given .1)
     (by-argument _ Γ _ f u
     (function-product S _ function (ap meaning-of (sym (after-function .enum-told2 .given .1)) ∙ after-function .before .before .classify .ensures))
     (place-second S of-app _ (ap (λ k. 1 + k) (function .read))))
@@ -162,15 +92,6 @@ part-span-start t c = omega (arith, calls t (c .before) _ _ _ (c .before .before
 part-span-end : (t : ℕ) → application-lts.Need-part-span-end (application-claims t) (application-at t) application.Post
 part-span-end t c = omega (arith, reach t (c .before .before .before .before .before .before .before .before .before .before) .fits, long t (c .before))
 
-span-requires : (t : ℕ) → application-lts.Need-span-requires (application-claims t) (application-at t) application.Post
-span-requires t c = search needs
-
-refused-requires-2 : (t : ℕ) → application-lts.Need-refused-requires-2 (application-claims t) (application-at t) application.Post
-refused-requires-2 t c = search needs
-
-same-length-4 : (t : ℕ) → application-lts.Need-same-length-4 (application-claims t) (application-at t) application.Post
-same-length-4 t c = search needs
-
 returns-4 : (t : ℕ) → application-lts.Need-returns-4 (application-claims t) (application-at t) application.Post
 returns-4 t c Γ f u S =
     let after-span = c .before .before in
@@ -191,12 +112,6 @@ same-requires t c κs =
       omega (arith, C .long, C .fits, domain-long t after-span _ _ _ (P .3), room, l),
       omega (arith, C .own-fits, C .fits, c .before .if1 .left, room, l),
     )
-
-refused-requires-3 : (t : ℕ) → application-lts.Need-refused-requires-3 (application-claims t) (application-at t) application.Post
-refused-requires-3 t c = search needs
-
-same-length-5 : (t : ℕ) → application-lts.Need-same-length-5 (application-claims t) (application-at t) application.Post
-same-length-5 t c = search needs
 
 returns-5 : (t : ℕ) → application-lts.Need-returns-5 (application-claims t) (application-at t) application.Post
 returns-5 t c Γ f u S =
@@ -224,12 +139,6 @@ mul-put-in t c =
     let C = calls t after-argument _ _ _ S in
     record { fits = omega (arith, subject-parts S of-app, C .read, S .within, S .short) }
 
-sub-put-in : (t : ℕ) → application-lts.Need-sub-put-in (application-claims t) (application-at t) application.Post
-sub-put-in t c = search needs
-
-part-put-in-start : (t : ℕ) → application-lts.Need-part-put-in-start (application-claims t) (application-at t) application.Post
-part-put-in-start t c = search needs
-
 part-put-in-end : (t : ℕ) → application-lts.Need-part-put-in-end (application-claims t) (application-at t) application.Post
 part-put-in-end t c =
     let after-argument = c .before .before .before .before .before .before .before in
@@ -252,9 +161,6 @@ sub-put-in-2 t c =
     let C = calls t after-argument _ _ _ S in
     omega (arith, C .long)
 
-sub-put-in-3 : (t : ℕ) → application-lts.Need-sub-put-in-3 (application-claims t) (application-at t) application.Post
-sub-put-in-3 t c = search needs
-
 put-in-requires : (t : ℕ) → application-lts.Need-put-in-requires (application-claims t) (application-at t) application.Post
 put-in-requires t c κs =
     let after-span = c .before .before .before .before .before .before in
@@ -273,15 +179,6 @@ put-in-requires t c κs =
       codomain-codes C x S (R .allowed),
       subject-codes (argument-subject S _ function) _ (argument-words S _ function (C .further)) (eqb-true (start .args .depth) 0),
     )
-
-enum-told-4 : (t : ℕ) → application-lts.Need-enum-told-4 (application-claims t) (application-at t) application.Post
-enum-told-4 t c = search needs
-
-refused-requires-4 : (t : ℕ) → application-lts.Need-refused-requires-4 (application-claims t) (application-at t) application.Post
-refused-requires-4 t c = search needs
-
-enum-known-end : (t : ℕ) → application-lts.Need-enum-known-end (application-claims t) (application-at t) application.Post
-enum-known-end t c = search needs
 
 sub-t59 : (t : ℕ) → application-lts.Need-sub-t59 (application-claims t) (application-at t) application.Post
 sub-t59 t c =
@@ -308,74 +205,21 @@ returns-7 t c Γ f u S =
     let P = put (puts t (c .before .before .before .before .before) Γ f u S) (c .before .end .given .1) in
     found
     (measured t (c .before .before .before .before .before .before .before .before) Γ f u S ∙ fitting _ _ (P .fits))
-    (written-type
-    _
-    _
-    (unfold size in omega (arith, C .read, C .further))
-    (omega (arith, P .ends))
-    (P .stored)
+    (written-type _ _ (unfold size in omega (arith, C .read, C .further)) (omega (arith, P .ends)) (P .stored)
     (omega (arith, P .fits, room-two (after-argument .before .before .before .before .before .before .before .before .before .before .before .before .before .before .before .before .before .before .before .before .before .before .before .before .before .pre .1 .4), long t after-argument))
-    (C .front)
-    (C .context)
-    (C .wide))
+    (C .front) (C .context) (C .wide))
 
 pub application-part : (M : Type 1) (t : ℕ) → application-lts.Closed (application-claims t) (application-at t) application.Post M
 application-part M t =
     application-lts.spec (application-claims t) (application-at t) application.Post
-    (sub-place t)
-    (sub-infer t)
-    (part-infer-start t)
-    (part-infer-end t)
-    (infer-requires t)
-    (enum-known-function t)
-    (enum-told t)
-    (same-length t)
-    (returns t)
-    (mul-classify t)
-    (slice-read-classify t)
-    (classify-requires t)
-    (enum-told-2 t)
-    (refused-requires t)
-    (same-length-2 t)
-    (returns-2 t)
-    (add-from t)
-    (add-next t)
-    (mul-infer t)
-    (sub-infer-2 t)
-    (part-infer-start-2 t)
-    (part-infer-end-2 t)
-    (infer-requires-2 t)
-    (enum-known-argument t)
-    (enum-told-3 t)
-    (same-length-3 t)
-    (returns-3 t)
-    (add-first t)
-    (mul-span t)
-    (sub-span t)
-    (part-span-start t)
-    (part-span-end t)
-    (span-requires t)
-    (refused-requires-2 t)
-    (same-length-4 t)
-    (returns-4 t)
-    (same-requires t)
-    (refused-requires-3 t)
-    (same-length-5 t)
-    (returns-5 t)
-    (add-to t)
-    (mul-put-in t)
-    (sub-put-in t)
-    (part-put-in-start t)
-    (part-put-in-end t)
-    (add-put-in t)
-    (sub-put-in-2 t)
-    (sub-put-in-3 t)
-    (put-in-requires t)
-    (enum-told-4 t)
-    (refused-requires-4 t)
-    (enum-known-end t)
-    (sub-t59 t)
-    (same-length-6 t)
-    (returns-6 t)
-    (same-length-7 t)
-    (returns-7 t)
+    (λ c. search needs) (λ c. subject-some (c .before .before .before .pre .1 .3))
+    (λ c. subject-some (c .before .before .before .pre .1 .3)) (λ c. search needs) (infer-requires t) (λ c. search needs)
+    (λ c. search needs) (λ c. search needs) (returns t) (λ c. search needs) (λ c. search needs) (λ c. search needs)
+    (λ c. search needs) (λ c. search needs) (λ c. search needs) (returns-2 t) (λ c. record { fits = omega (arith, reach t c) })
+    (λ c. record { fits = omega (arith, reach t c) }) (λ c. record { fits = omega (arith, reach t c) }) (λ c. reach t c .within)
+    (λ c. reach t c .within) (λ c. search needs) (infer-requires-2 t) (λ c. search needs) (λ c. search needs) (λ c. search needs)
+    (returns-3 t) (add-first t) (mul-span t) (sub-span t) (part-span-start t) (part-span-end t) (λ c. search needs)
+    (λ c. search needs) (λ c. search needs) (returns-4 t) (same-requires t) (λ c. search needs) (λ c. search needs) (returns-5 t)
+    (add-to t) (mul-put-in t) (λ c. search needs) (λ c. search needs) (part-put-in-end t) (add-put-in t) (sub-put-in-2 t)
+    (λ c. search needs) (put-in-requires t) (λ c. search needs) (λ c. search needs) (λ c. search needs) (sub-t59 t)
+    (same-length-6 t) (returns-6 t) (same-length-7 t) (returns-7 t)

@@ -20,18 +20,6 @@ use Rattle.typing.proofs.inference.cast_down.Reads as cast-down
 use Rattle.typing.proofs.inference.+abstraction+application+cast_down+cast_up+infer+product+recursion+star_part.Lts-cast_down as cast-down-lts
 use Rattle.typing.proofs.inference.+abstraction+application+cast_down+cast_up+infer+product+recursion+star_part.Proof.Measures.{cast-down-at, cast-down-claims}
 
-sub-place : (t : ℕ) → cast-down-lts.Need-sub-place (cast-down-claims t) (cast-down-at t) cast-down.Post
-sub-place t c = search needs
-
-sub-infer : (t : ℕ) → cast-down-lts.Need-sub-infer (cast-down-claims t) (cast-down-at t) cast-down.Post
-sub-infer t c = omega (arith, subject-some (c .before .before .before .pre .1 .2))
-
-part-infer-start : (t : ℕ) → cast-down-lts.Need-part-infer-start (cast-down-claims t) (cast-down-at t) cast-down.Post
-part-infer-start t c = omega (arith, subject-some (c .before .before .before .pre .1 .2))
-
-part-infer-end : (t : ℕ) → cast-down-lts.Need-part-infer-end (cast-down-claims t) (cast-down-at t) cast-down.Post
-part-infer-end t c = search needs
-
 infer-requires : (t : ℕ) → cast-down-lts.Need-infer-requires (cast-down-claims t) (cast-down-at t) cast-down.Post
 infer-requires t c κs =
     let start = c .before .before .before .before .before .before in
@@ -45,23 +33,10 @@ infer-requires t c κs =
       ),
     )
 
-enum-known-body : (t : ℕ) → cast-down-lts.Need-enum-known-body (cast-down-claims t) (cast-down-at t) cast-down.Post
-enum-known-body t c = search needs
-
-enum-told : (t : ℕ) → cast-down-lts.Need-enum-told (cast-down-claims t) (cast-down-at t) cast-down.Post
-enum-told t c = search needs
-
-same-length : (t : ℕ) → cast-down-lts.Need-same-length (cast-down-claims t) (cast-down-at t) cast-down.Post
-same-length t c = search needs
-
 returns : (t : ℕ) → cast-down-lts.Need-returns (cast-down-claims t) (cast-down-at t) cast-down.Post
 returns t c Γ e S =
     let after-infer = c .before .before .before .before in
-    passed
-    _
-    (after-infer .infer .ensures Γ e (inside S refl))
-    (c .enum-told .given .1)
-    (down _ Γ _ _ e (place-first S))
+    passed _ (after-infer .infer .ensures Γ e (inside S refl)) (c .enum-told .given .1) (down _ Γ _ _ e (place-first S))
 
 step-type-requires : (t : ℕ) → cast-down-lts.Need-step-type-requires (cast-down-claims t) (cast-down-at t) cast-down.Post
 step-type-requires t c κs =
@@ -75,18 +50,6 @@ step-type-requires t c κs =
     let long = after-infer .infer .kept .1 .1 .1 .1 .0 in
     (omega arith, omega (arith, A .long), type-codes B _ _ (A .found) (eqb (start .args .depth) 0) (P .3 .allowed) (A .lies) (eqb-true (start .args .depth) 0))
 
-refused-requires : (t : ℕ) → cast-down-lts.Need-refused-requires (cast-down-claims t) (cast-down-at t) cast-down.Post
-refused-requires t c κs = search needs
-
-enum-told-2 : (t : ℕ) → cast-down-lts.Need-enum-told-2 (cast-down-claims t) (cast-down-at t) cast-down.Post
-enum-told-2 t c = search needs
-
-refused-requires-2 : (t : ℕ) → cast-down-lts.Need-refused-requires-2 (cast-down-claims t) (cast-down-at t) cast-down.Post
-refused-requires-2 t c κs = search needs
-
-enum-known-count : (t : ℕ) → cast-down-lts.Need-enum-known-count (cast-down-claims t) (cast-down-at t) cast-down.Post
-enum-known-count t c = search needs
-
 add-t28 : (t : ℕ) → cast-down-lts.Need-add-t28 (cast-down-claims t) (cast-down-at t) cast-down.Post
 add-t28 t c =
     let after-body = c .before .before .before .before .before .before .before .before in
@@ -95,9 +58,6 @@ add-t28 t c =
     let P = start .pre .1 in
     let B = typed (after-infer .infer .ensures (P .0) (P .1) (inside (P .2) refl)) (after-body .body .given .1) in
     omega (arith, B .read, subject-long (inside (P .2) refl), (inside (P .2) refl) .within, P .2 .short)
-
-same-length-2 : (t : ℕ) → cast-down-lts.Need-same-length-2 (cast-down-claims t) (cast-down-at t) cast-down.Post
-same-length-2 t c = search needs
 
 returns-2 : (t : ℕ) → cast-down-lts.Need-returns-2 (cast-down-claims t) (cast-down-at t) cast-down.Post
 returns-2 t c Γ e S =
@@ -109,9 +69,6 @@ returns-2 t c Γ e S =
     (down-rests _ Γ _ _ e (place-first S) (P .found) (rests _ _ _ _ _ _ (step (P .type)) (after-step-type .step-type .ensures (P .type) (P .lies)) (c .before .match2 .keys1)))
     (c .refused .ensures)
 
-same-length-3 : (t : ℕ) → cast-down-lts.Need-same-length-3 (cast-down-claims t) (cast-down-at t) cast-down.Post
-same-length-3 t c = search needs
-
 returns-3 : (t : ℕ) → cast-down-lts.Need-returns-3 (cast-down-claims t) (cast-down-at t) cast-down.Post
 returns-3 t c Γ e S =
     let after-step-type = c .before .before .before .before .before in
@@ -120,9 +77,6 @@ returns-3 t c Γ e S =
     let P = typed (after-infer .infer .ensures Γ e (inside S refl)) (after-body .body .given .1) in
     let o = over-limit _ _ _ _ _ (step (P .type)) (after-step-type .step-type .ensures (P .type) (P .lies)) (c .before .enum-told2 .given .1) in
     turned (down-over _ Γ _ _ e (place-first S) (P .found) (o .0) (o .1) (o .2)) (c .refused2 .ensures)
-
-same-length-4 : (t : ℕ) → cast-down-lts.Need-same-length-4 (cast-down-claims t) (cast-down-at t) cast-down.Post
-same-length-4 t c = search needs
 
 returns-4 : (t : ℕ) → cast-down-lts.Need-returns-4 (cast-down-claims t) (cast-down-at t) cast-down.Post
 unfolding size
@@ -135,38 +89,15 @@ returns-4 t c Γ e S =
     let m = moved _ _ _ _ _ (step (P .type)) (after-step-type .step-type .ensures (P .type) (P .lies)) (c .before .count .given .1) in
     found
     (down-typed _ Γ _ _ e (place-first S) (P .found) (m .state) (m .steps) (m .fits))
-    (written-type
-    (after-infer .infer .last .1 .1 .1 .1 .0)
-    (m .state)
-    (omega (arith, P .read))
-    (m .long)
-    (m .stored)
-    (omega (arith, m .fits, room-two (start .pre .1 .3), after-infer .infer .kept .1 .1 .1 .1 .0))
-    (P .front)
-    (P .context)
+    (written-type (after-infer .infer .last .1 .1 .1 .1 .0) (m .state) (omega (arith, P .read)) (m .long) (m .stored)
+    (omega (arith, m .fits, room-two (start .pre .1 .3), after-infer .infer .kept .1 .1 .1 .1 .0)) (P .front) (P .context)
     (P .wide))
 
 pub cast-down-part : (M : Type 1) (t : ℕ) → cast-down-lts.Closed (cast-down-claims t) (cast-down-at t) cast-down.Post M
 cast-down-part M t =
     cast-down-lts.spec (cast-down-claims t) (cast-down-at t) cast-down.Post
-    (sub-place t)
-    (sub-infer t)
-    (part-infer-start t)
-    (part-infer-end t)
-    (infer-requires t)
-    (enum-known-body t)
-    (enum-told t)
-    (same-length t)
-    (returns t)
-    (step-type-requires t)
-    (refused-requires t)
-    (enum-told-2 t)
-    (refused-requires-2 t)
-    (enum-known-count t)
-    (add-t28 t)
-    (same-length-2 t)
-    (returns-2 t)
-    (same-length-3 t)
-    (returns-3 t)
-    (same-length-4 t)
-    (returns-4 t)
+    (λ c. search needs) (λ c. omega (arith, subject-some (c .before .before .before .pre .1 .2)))
+    (λ c. omega (arith, subject-some (c .before .before .before .pre .1 .2))) (λ c. search needs) (infer-requires t)
+    (λ c. search needs) (λ c. search needs) (λ c. search needs) (returns t) (step-type-requires t) (λ c κs. search needs)
+    (λ c. search needs) (λ c κs. search needs) (λ c. search needs) (add-t28 t) (λ c. search needs) (returns-2 t) (λ c. search needs)
+    (returns-3 t) (λ c. search needs) (returns-4 t)

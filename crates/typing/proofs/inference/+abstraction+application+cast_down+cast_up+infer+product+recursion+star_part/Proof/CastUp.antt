@@ -24,18 +24,6 @@ use Rattle.typing.proofs.inference.+abstraction+application+cast_down+c
 use Rattle.typing.proofs.inference.+abstraction+application+cast_down+cast_up+infer+product+recursion+star_part.Proof.Measures.{cast-up-at, cast-up-claims}
 use Rattle.typing.proofs.inference.+abstraction+application+cast_down+cast_up+infer+product+recursion+star_part.Proof.CastUp.Known.{reach, copied, both, room, next-state, compared}
 
-sub-place : (t : ℕ) → cast-up-lts.Need-sub-place (cast-up-claims t) (cast-up-at t) cast-up.Post
-sub-place t c = search needs
-
-sub-star-part : (t : ℕ) → cast-up-lts.Need-sub-star-part (cast-up-claims t) (cast-up-at t) cast-up.Post
-sub-star-part t c = omega (arith, subject-some (c .before .before .before .pre .1 .3))
-
-part-star-part-start : (t : ℕ) → cast-up-lts.Need-part-star-part-start (cast-up-claims t) (cast-up-at t) cast-up.Post
-part-star-part-start t c = omega (arith, subject-some (c .before .before .before .pre .1 .3))
-
-part-star-part-end : (t : ℕ) → cast-up-lts.Need-part-star-part-end (cast-up-claims t) (cast-up-at t) cast-up.Post
-part-star-part-end t c = search needs
-
 star-part-requires : (t : ℕ) → cast-up-lts.Need-star-part-requires (cast-up-claims t) (cast-up-at t) cast-up.Post
 star-part-requires t c κs =
     let start = c .before .before .before .before .before .before in
@@ -49,34 +37,10 @@ star-part-requires t c κs =
       ),
     )
 
-enum-known-annotation : (t : ℕ) → cast-up-lts.Need-enum-known-annotation (cast-up-claims t) (cast-up-at t) cast-up.Post
-enum-known-annotation t c = search needs
-
-enum-told : (t : ℕ) → cast-up-lts.Need-enum-told (cast-up-claims t) (cast-up-at t) cast-up.Post
-enum-told t c = search needs
-
-same-length : (t : ℕ) → cast-up-lts.Need-same-length (cast-up-claims t) (cast-up-at t) cast-up.Post
-same-length t c = search needs
-
 returns : (t : ℕ) → cast-up-lts.Need-returns (cast-up-claims t) (cast-up-at t) cast-up.Post
 returns t c Γ a e S =
     let after-star-part = c .before .before .before .before in
     passed _ (after-star-part .star-part .ensures Γ a (first S of-castup)) (c .enum-told .given .1) (up-annotation _ Γ _ _ a e (place-first S))
-
-add-front : (t : ℕ) → cast-up-lts.Need-add-front (cast-up-claims t) (cast-up-at t) cast-up.Post
-add-front t c = omega (arith, reach t c)
-
-mul-infer : (t : ℕ) → cast-up-lts.Need-mul-infer (cast-up-claims t) (cast-up-at t) cast-up.Post
-mul-infer t c = omega (arith, reach t c)
-
-sub-infer : (t : ℕ) → cast-up-lts.Need-sub-infer (cast-up-claims t) (cast-up-at t) cast-up.Post
-sub-infer t c = omega (arith, reach t c)
-
-part-infer-start : (t : ℕ) → cast-up-lts.Need-part-infer-start (cast-up-claims t) (cast-up-at t) cast-up.Post
-part-infer-start t c = omega (arith, reach t c)
-
-part-infer-end : (t : ℕ) → cast-up-lts.Need-part-infer-end (cast-up-claims t) (cast-up-at t) cast-up.Post
-part-infer-end t c = search needs
 
 infer-requires : (t : ℕ) → cast-up-lts.Need-infer-requires (cast-up-claims t) (cast-up-at t) cast-up.Post
 infer-requires t c κs =
@@ -94,25 +58,13 @@ infer-requires t c κs =
       ),
     )
 
-enum-known-body : (t : ℕ) → cast-up-lts.Need-enum-known-body (cast-up-claims t) (cast-up-at t) cast-up.Post
-enum-known-body t c = search needs
-
-enum-told-2 : (t : ℕ) → cast-up-lts.Need-enum-told-2 (cast-up-claims t) (cast-up-at t) cast-up.Post
-enum-told-2 t c = search needs
-
-same-length-2 : (t : ℕ) → cast-up-lts.Need-same-length-2 (cast-up-claims t) (cast-up-at t) cast-up.Post
-same-length-2 t c = search needs
-
 returns-2 : (t : ℕ) → cast-up-lts.Need-returns-2 (cast-up-claims t) (cast-up-at t) cast-up.Post
 returns-2 t c Γ a e S =
     let after-infer = c .before .before .before .before in
     let after-annotation = after-infer .before .before .before .before .before in
     let after-star-part = after-annotation .before .before .before .before in
     let A = typed (after-star-part .star-part .ensures Γ a (first S of-castup)) (after-annotation .annotation .given .1) in
-    passed
-    _
-    (after-infer .infer .ensures Γ e (beside S _ A of-castup))
-    (c .enum-told2 .given .1)
+    passed _ (after-infer .infer .ensures Γ e (beside S _ A of-castup)) (c .enum-told2 .given .1)
     (up-body _ Γ _ _ a e (annotation-found S _ A) (second-place S _ A (of-castup {e = e})))
 
 add-next : (t : ℕ) → cast-up-lts.Need-add-next (cast-up-claims t) (cast-up-at t) cast-up.Post
@@ -121,12 +73,6 @@ add-next t c =
     let after-star-part = after-infer .before .before .before .before .before .before .before .before .before in
     let start = after-star-part .before .before .before .before .before .before .before in
     omega (arith, room t c, start .good .1 .1 .1 .1 .0 .0, after-star-part .star-part .kept .1 .1 .1 .1 .0, after-infer .infer .kept .1 .1 .1 .1 .0)
-
-sub-step-into : (t : ℕ) → cast-up-lts.Need-sub-step-into (cast-up-claims t) (cast-up-at t) cast-up.Post
-sub-step-into t c = search needs
-
-part-step-into-start : (t : ℕ) → cast-up-lts.Need-part-step-into-start (cast-up-claims t) (cast-up-at t) cast-up.Post
-part-step-into-start t c = search needs
 
 part-step-into-end : (t : ℕ) → cast-up-lts.Need-part-step-into-end (cast-up-claims t) (cast-up-at t) cast-up.Post
 part-step-into-end t c = omega (arith, reach t (c .before .before .before .before .before .before .before .before .before))
@@ -140,12 +86,6 @@ step-into-requires t c κs =
     let r = room t (c .before .before) in
     (omega arith, subject-codes F (eqb (start .args .depth) 0) (copied t after-known-told (P .0) (P .1) (P .2) (P .3)) (eqb-true (start .args .depth) 0))
 
-refused-requires : (t : ℕ) → cast-up-lts.Need-refused-requires (cast-up-claims t) (cast-up-at t) cast-up.Post
-refused-requires t c κs = search needs
-
-same-length-3 : (t : ℕ) → cast-up-lts.Need-same-length-3 (cast-up-claims t) (cast-up-at t) cast-up.Post
-same-length-3 t c = search needs
-
 returns-3 : (t : ℕ) → cast-up-lts.Need-returns-3 (cast-up-claims t) (cast-up-at t) cast-up.Post
 returns-3 t c Γ a e S =
     let after-step-into = c .before .before .before .before in
@@ -153,15 +93,6 @@ returns-3 t c Γ a e S =
     let after-known-told = after-known-told2 .before .before .before .before .before .before .before .before .before in
     let m = after-step-into .step-into .ensures a (copied t after-known-told Γ a e S) in
     turned (up-rests (both t after-known-told2 Γ a e S) (rests _ _ _ _ _ _ (step a) m (c .before .match3 .keys1))) (c .refused .ensures)
-
-enum-told-3 : (t : ℕ) → cast-up-lts.Need-enum-told-3 (cast-up-claims t) (cast-up-at t) cast-up.Post
-enum-told-3 t c = search needs
-
-refused-requires-2 : (t : ℕ) → cast-up-lts.Need-refused-requires-2 (cast-up-claims t) (cast-up-at t) cast-up.Post
-refused-requires-2 t c κs = search needs
-
-same-length-4 : (t : ℕ) → cast-up-lts.Need-same-length-4 (cast-up-claims t) (cast-up-at t) cast-up.Post
-same-length-4 t c = search needs
 
 returns-4 : (t : ℕ) → cast-up-lts.Need-returns-4 (cast-up-claims t) (cast-up-at t) cast-up.Post
 returns-4 t c Γ a e S =
@@ -171,15 +102,6 @@ returns-4 t c Γ a e S =
     let m = after-step-into .step-into .ensures a (copied t after-known-told Γ a e S) in
     let o = over-limit _ _ _ _ _ (step a) m (c .before .enum-told3 .given .1) in
     turned (up-step-over (both t after-known-told2 Γ a e S) (o .0) (o .1) (o .2)) (c .refused2 .ensures)
-
-enum-known-count : (t : ℕ) → cast-up-lts.Need-enum-known-count (cast-up-claims t) (cast-up-at t) cast-up.Post
-enum-known-count t c = search needs
-
-refused-requires-3 : (t : ℕ) → cast-up-lts.Need-refused-requires-3 (cast-up-claims t) (cast-up-at t) cast-up.Post
-refused-requires-3 t c κs = search needs
-
-same-length-5 : (t : ℕ) → cast-up-lts.Need-same-length-5 (cast-up-claims t) (cast-up-at t) cast-up.Post
-same-length-5 t c = search needs
 
 returns-5 : (t : ℕ) → cast-up-lts.Need-returns-5 (cast-up-claims t) (cast-up-at t) cast-up.Post
 returns-5 t c Γ a e S =
@@ -196,12 +118,6 @@ same-requires t c κs =
     let k = after-step-into .step-into .kept .1 .1 .0 in
     (omega arith, omega arith)
 
-refused-requires-4 : (t : ℕ) → cast-up-lts.Need-refused-requires-4 (cast-up-claims t) (cast-up-at t) cast-up.Post
-refused-requires-4 t c κs = search needs
-
-same-length-6 : (t : ℕ) → cast-up-lts.Need-same-length-6 (cast-up-claims t) (cast-up-at t) cast-up.Post
-same-length-6 t c = search needs
-
 returns-6 : (t : ℕ) → cast-up-lts.Need-returns-6 (cast-up-claims t) (cast-up-at t) cast-up.Post
 returns-6 t c Γ a e S =
     let after-known-told3 = c .before .before .before .before .before in
@@ -209,12 +125,6 @@ returns-6 t c Γ a e S =
     let B = both t after-known-told2 Γ a e S in
     let m = next-state t after-known-told3 Γ a e S in
     turned (up-other B (m .state) (m .steps) (m .fits) (compared t (c .before .before) Γ a e S .0 (c .before .if2 .taken))) (c .refused4 .ensures)
-
-refused-requires-5 : (t : ℕ) → cast-up-lts.Need-refused-requires-5 (cast-up-claims t) (cast-up-at t) cast-up.Post
-refused-requires-5 t c κs = search needs
-
-same-length-7 : (t : ℕ) → cast-up-lts.Need-same-length-7 (cast-up-claims t) (cast-up-at t) cast-up.Post
-same-length-7 t c = search needs
 
 returns-7 : (t : ℕ) → cast-up-lts.Need-returns-7 (cast-up-claims t) (cast-up-at t) cast-up.Post
 returns-7 t c Γ a e S =
@@ -225,12 +135,6 @@ returns-7 t c Γ a e S =
     turned
     (up-measured B (m .state) (m .steps) (m .fits) (compared t (c .before .before .before) Γ a e S .1 (c .before .before .if2 .left)) ∙ over _ a (omega (arith, B .read)))
     (c .refused5 .ensures)
-
-sub-copy : (t : ℕ) → cast-up-lts.Need-sub-copy (cast-up-claims t) (cast-up-at t) cast-up.Post
-sub-copy t c = search needs
-
-part-copy-start : (t : ℕ) → cast-up-lts.Need-part-copy-start (cast-up-claims t) (cast-up-at t) cast-up.Post
-part-copy-start t c = search needs
 
 part-copy-end : (t : ℕ) → cast-up-lts.Need-part-copy-end (cast-up-claims t) (cast-up-at t) cast-up.Post
 part-copy-end t c = omega (arith, reach t (c .before .before .before .before .before .before .before .before .before .before .before .before .before .before .before .before .before .before .before .before .before .before))
@@ -277,66 +181,20 @@ returns-8 t c Γ a e S =
     let fits : size a ≤ start .args .limit = omega (arith, B .read, else3 .if3 .left) in
     found
     (up-measured B (m .state) (m .steps) (m .fits) (compared t after-same Γ a e S .1 (else2 .if2 .left)) ∙ fitting _ a fits)
-    (written-type
-    (after-step-into .step-into .last .1 .1 .0)
-    a
-    (omega (arith, B .read, B .further))
-    (B .read)
-    (wrote a (c .before .before .copy .ensures) (copied t after-known-told Γ a e S) (omega arith))
-    (omega arith)
-    (moved-front (start .args .top) m (omega arith) ∙ B .front)
-    (B .context)
-    (B .wide))
+    (written-type (after-step-into .step-into .last .1 .1 .0) a (omega (arith, B .read, B .further)) (B .read)
+    (wrote a (c .before .before .copy .ensures) (copied t after-known-told Γ a e S) (omega arith)) (omega arith)
+    (moved-front (start .args .top) m (omega arith) ∙ B .front) (B .context) (B .wide))
 
 pub cast-up-part : (M : Type 1) (t : ℕ) → cast-up-lts.Closed (cast-up-claims t) (cast-up-at t) cast-up.Post M
 cast-up-part M t =
     cast-up-lts.spec (cast-up-claims t) (cast-up-at t) cast-up.Post
-    (sub-place t)
-    (sub-star-part t)
-    (part-star-part-start t)
-    (part-star-part-end t)
-    (star-part-requires t)
-    (enum-known-annotation t)
-    (enum-told t)
-    (same-length t)
-    (returns t)
-    (add-front t)
-    (mul-infer t)
-    (sub-infer t)
-    (part-infer-start t)
-    (part-infer-end t)
-    (infer-requires t)
-    (enum-known-body t)
-    (enum-told-2 t)
-    (same-length-2 t)
-    (returns-2 t)
-    (add-next t)
-    (sub-step-into t)
-    (part-step-into-start t)
-    (part-step-into-end t)
-    (step-into-requires t)
-    (refused-requires t)
-    (same-length-3 t)
-    (returns-3 t)
-    (enum-told-3 t)
-    (refused-requires-2 t)
-    (same-length-4 t)
-    (returns-4 t)
-    (enum-known-count t)
-    (refused-requires-3 t)
-    (same-length-5 t)
-    (returns-5 t)
-    (same-requires t)
-    (refused-requires-4 t)
-    (same-length-6 t)
-    (returns-6 t)
-    (refused-requires-5 t)
-    (same-length-7 t)
-    (returns-7 t)
-    (sub-copy t)
-    (part-copy-start t)
-    (part-copy-end t)
-    (copy-requires t)
-    (add-t19 t)
-    (same-length-8 t)
-    (returns-8 t)
+    (λ c. search needs) (λ c. omega (arith, subject-some (c .before .before .before .pre .1 .3)))
+    (λ c. omega (arith, subject-some (c .before .before .before .pre .1 .3))) (λ c. search needs) (star-part-requires t)
+    (λ c. search needs) (λ c. search needs) (λ c. search needs) (returns t) (λ c. omega (arith, reach t c))
+    (λ c. omega (arith, reach t c)) (λ c. omega (arith, reach t c)) (λ c. omega (arith, reach t c)) (λ c. search needs)
+    (infer-requires t) (λ c. search needs) (λ c. search needs) (λ c. search needs) (returns-2 t) (add-next t) (λ c. search needs)
+    (λ c. search needs) (part-step-into-end t) (step-into-requires t) (λ c κs. search needs) (λ c. search needs) (returns-3 t)
+    (λ c. search needs) (λ c κs. search needs) (λ c. search needs) (returns-4 t) (λ c. search needs) (λ c κs. search needs)
+    (λ c. search needs) (returns-5 t) (same-requires t) (λ c κs. search needs) (λ c. search needs) (returns-6 t)
+    (λ c κs. search needs) (λ c. search needs) (returns-7 t) (λ c. search needs) (λ c. search needs) (part-copy-end t)
+    (copy-requires t) (add-t19 t) (same-length-8 t) (returns-8 t)

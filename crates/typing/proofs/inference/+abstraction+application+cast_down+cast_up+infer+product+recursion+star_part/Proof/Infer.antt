@@ -36,48 +36,15 @@ annotation-at t c =
     c .wide2 .ensures
     ∙ ap (λ k. getD (c .before .before .before .before .before .before .before .before .before .before .before .args .context .now) (c .before .before .before .before .before .before .before .before .before .before .before .args .depth - 1 - k) 0) (c .before .before .wide .ensures)
 
-sub-place : (t : ℕ) → infer-lts.Need-sub-place (infer-claims t) (infer-at t) infer.Post
-sub-place t c = search needs
-
-shared-slice-read-classify : (t : ℕ) → infer-lts.Need-shared-slice-read-classify (infer-claims t) (infer-at t) infer.Post
-shared-slice-read-classify t c = subject-some (c .before .before .before .before .pre .1 .2)
-
-classify-requires : (t : ℕ) → infer-lts.Need-classify-requires (infer-claims t) (infer-at t) infer.Post
-classify-requires t c = search needs
-
-enum-told : (t : ℕ) → infer-lts.Need-enum-told (infer-claims t) (infer-at t) infer.Post
-enum-told t c = search needs
-
-mul-work : (t : ℕ) → infer-lts.Need-mul-work (infer-claims t) (infer-at t) infer.Post
-mul-work t c = search needs
-
-slice-write-work : (t : ℕ) → infer-lts.Need-slice-write-work (infer-claims t) (infer-at t) infer.Post
-slice-write-work t c = search needs
-
-enum-known-index : (t : ℕ) → infer-lts.Need-enum-known-index (infer-claims t) (infer-at t) infer.Post
-enum-known-index t c = search needs
-
 sub-binder : (t : ℕ) → infer-lts.Need-sub-binder (infer-claims t) (infer-at t) infer.Post
 sub-binder t c =
     let S = c .before .before .before .before .before .before .before .before .pre .1 .2 in
     omega (arith, bound (renamed S (is-variable t c S)))
 
-wide-requires : (t : ℕ) → infer-lts.Need-wide-requires (infer-claims t) (infer-at t) infer.Post
-wide-requires t c = search needs
-
 sub-binder-2 : (t : ℕ) → infer-lts.Need-sub-binder-2 (infer-claims t) (infer-at t) infer.Post
 sub-binder-2 t c =
     let S = c .before .before .before .before .before .before .before .before .before .pre .1 .2 in
     omega (arith, bound (renamed S (is-variable t (c .before) S)), c .wide .ensures)
-
-mul-wide : (t : ℕ) → infer-lts.Need-mul-wide (infer-claims t) (infer-at t) infer.Post
-mul-wide t c = search needs
-
-element-copy-out-wide : (t : ℕ) → infer-lts.Need-element-copy-out-wide (infer-claims t) (infer-at t) infer.Post
-element-copy-out-wide t c = search needs
-
-wide-requires-2 : (t : ℕ) → infer-lts.Need-wide-requires-2 (infer-claims t) (infer-at t) infer.Post
-wide-requires-2 t c = search needs
 
 variable-requires : (t : ℕ) → infer-lts.Need-variable-requires (infer-claims t) (infer-at t) infer.Post
 variable-requires t c κs =
@@ -89,9 +56,6 @@ variable-requires t c κs =
       R .allowed,
     )
 
-enum-told-2 : (t : ℕ) → infer-lts.Need-enum-told-2 (infer-claims t) (infer-at t) infer.Post
-enum-told-2 t c = search needs
-
 application-requires : (t : ℕ) → infer-lts.Need-application-requires (infer-claims t) (infer-at t) infer.Post
 unfolding Headed
 application-requires t c κs =
@@ -99,9 +63,6 @@ application-requires t c κs =
     let S = start .pre .1 .2 in
     let node = subject-headed S (ap meaning-of (sym (c .before .before .enum-told2 .given .1)) ∙ c .before .before .before .before .classify .ensures) in
     (omega (arith, start .pre .0), (_, node .0, node .1, renamed S (node .2), roomy-renamed (start .pre .1 .3) (node .2)))
-
-enum-told-3 : (t : ℕ) → infer-lts.Need-enum-told-3 (infer-claims t) (infer-at t) infer.Post
-enum-told-3 t c = search needs
 
 abstraction-requires : (t : ℕ) → infer-lts.Need-abstraction-requires (infer-claims t) (infer-at t) infer.Post
 unfolding Headed
@@ -111,9 +72,6 @@ abstraction-requires t c κs =
     let node = subject-headed S (ap meaning-of (sym (c .before .before .enum-told3 .given .1)) ∙ c .before .before .before .before .classify .ensures) in
     (omega (arith, start .pre .0), (_, node .0, node .1, renamed S (node .2), roomy-renamed (start .pre .1 .3) (node .2)))
 
-enum-told-4 : (t : ℕ) → infer-lts.Need-enum-told-4 (infer-claims t) (infer-at t) infer.Post
-enum-told-4 t c = search needs
-
 product-requires : (t : ℕ) → infer-lts.Need-product-requires (infer-claims t) (infer-at t) infer.Post
 unfolding Headed
 product-requires t c κs =
@@ -121,9 +79,6 @@ product-requires t c κs =
     let S = start .pre .1 .2 in
     let node = subject-headed S (ap meaning-of (sym (c .before .before .enum-told4 .given .1)) ∙ c .before .before .before .before .classify .ensures) in
     (omega (arith, start .pre .0), (_, node .0, node .1, renamed S (node .2), roomy-renamed (start .pre .1 .3) (node .2)))
-
-enum-told-5 : (t : ℕ) → infer-lts.Need-enum-told-5 (infer-claims t) (infer-at t) infer.Post
-enum-told-5 t c = search needs
 
 cast-up-requires : (t : ℕ) → infer-lts.Need-cast-up-requires (infer-claims t) (infer-at t) infer.Post
 unfolding Headed
@@ -133,9 +88,6 @@ cast-up-requires t c κs =
     let node = subject-headed S (ap meaning-of (sym (c .before .before .enum-told5 .given .1)) ∙ c .before .before .before .before .classify .ensures) in
     (omega (arith, start .pre .0), (_, node .0, node .1, renamed S (node .2), roomy-renamed (start .pre .1 .3) (node .2)))
 
-enum-told-6 : (t : ℕ) → infer-lts.Need-enum-told-6 (infer-claims t) (infer-at t) infer.Post
-enum-told-6 t c = search needs
-
 cast-down-requires : (t : ℕ) → infer-lts.Need-cast-down-requires (infer-claims t) (infer-at t) infer.Post
 unfolding Headed
 cast-down-requires t c κs =
@@ -144,9 +96,6 @@ cast-down-requires t c κs =
     let node = subject-headed S (ap meaning-of (sym (c .before .before .enum-told6 .given .1)) ∙ c .before .before .before .before .classify .ensures) in
     (omega (arith, start .pre .0), (_, node .0, renamed S (node .1), roomy-renamed (start .pre .1 .3) (node .1)))
 
-enum-told-7 : (t : ℕ) → infer-lts.Need-enum-told-7 (infer-claims t) (infer-at t) infer.Post
-enum-told-7 t c = search needs
-
 recursion-requires : (t : ℕ) → infer-lts.Need-recursion-requires (infer-claims t) (infer-at t) infer.Post
 unfolding Headed
 recursion-requires t c κs =
@@ -154,15 +103,6 @@ recursion-requires t c κs =
     let S = start .pre .1 .2 in
     let node = subject-headed S (ap meaning-of (sym (c .before .before .enum-told7 .given .1)) ∙ c .before .before .before .before .classify .ensures) in
     (omega (arith, start .pre .0), (_, node .0, node .1, renamed S (node .2), roomy-renamed (start .pre .1 .3) (node .2)))
-
-enum-told-8 : (t : ℕ) → infer-lts.Need-enum-told-8 (infer-claims t) (infer-at t) infer.Post
-enum-told-8 t c = search needs
-
-refused-requires : (t : ℕ) → infer-lts.Need-refused-requires (infer-claims t) (infer-at t) infer.Post
-refused-requires t c = search needs
-
-same-length : (t : ℕ) → infer-lts.Need-same-length (infer-claims t) (infer-at t) infer.Post
-same-length t c = search needs
 
 returns : (t : ℕ) → infer-lts.Need-returns (infer-claims t) (infer-at t) infer.Post
 unfolding Headed calculus.infer size words emit
@@ -175,9 +115,6 @@ returns t c Γ e S =
     (fitting _ star (R .some))
     (written-type (start .args .work .now) star refl refl refl (omega (arith, room-two R, R .some)) refl refl refl))
 
-same-length-2 : (t : ℕ) → infer-lts.Need-same-length-2 (infer-claims t) (infer-at t) infer.Post
-same-length-2 t c = search needs
-
 returns-2 : (t : ℕ) → infer-lts.Need-returns-2 (infer-claims t) (infer-at t) infer.Post
 returns-2 t c Γ e S =
     let start = c .before .before .before .before .before .before .before .before .before .before .before .before .before .before .before in
@@ -185,13 +122,8 @@ returns-2 t c Γ e S =
     let variable = renamed S x in
     rw
     x
-    (infers-annotation
-    variable
-    (omega (arith, room-two (start .pre .1 .3)))
+    (infers-annotation variable (omega (arith, room-two (start .pre .1 .3)))
     (c .before .before .variable .ensures _ (annotated variable (annotation-at t (c .before .before .before .before)))))
-
-same-length-3 : (t : ℕ) → infer-lts.Need-same-length-3 (infer-claims t) (infer-at t) infer.Post
-same-length-3 t c = search needs
 
 returns-3 : (t : ℕ) → infer-lts.Need-returns-3 (infer-claims t) (infer-at t) infer.Post
 unfolding Headed
@@ -199,17 +131,11 @@ returns-3 t c Γ e S =
     let node = subject-headed S (ap meaning-of (sym (c .before .before .before .before .before .enum-told2 .given .1)) ∙ c .before .before .before .before .before .before .before .classify .ensures) in
     rw (node .2) (c .before .before .application .ensures Γ (node .0) (node .1) (renamed S (node .2)))
 
-same-length-4 : (t : ℕ) → infer-lts.Need-same-length-4 (infer-claims t) (infer-at t) infer.Post
-same-length-4 t c = search needs
-
 returns-4 : (t : ℕ) → infer-lts.Need-returns-4 (infer-claims t) (infer-at t) infer.Post
 unfolding Headed
 returns-4 t c Γ e S =
     let node = subject-headed S (ap meaning-of (sym (c .before .before .before .before .before .enum-told3 .given .1)) ∙ c .before .before .before .before .before .before .before .classify .ensures) in
     rw (node .2) (c .before .before .abstraction .ensures Γ (node .0) (node .1) (renamed S (node .2)))
-
-same-length-5 : (t : ℕ) → infer-lts.Need-same-length-5 (infer-claims t) (infer-at t) infer.Post
-same-length-5 t c = search needs
 
 returns-5 : (t : ℕ) → infer-lts.Need-returns-5 (infer-claims t) (infer-at t) infer.Post
 unfolding Headed
@@ -217,26 +143,17 @@ returns-5 t c Γ e S =
     let node = subject-headed S (ap meaning-of (sym (c .before .before .before .before .before .enum-told4 .given .1)) ∙ c .before .before .before .before .before .before .before .classify .ensures) in
     rw (node .2) (c .before .before .product .ensures Γ (node .0) (node .1) (renamed S (node .2)))
 
-same-length-6 : (t : ℕ) → infer-lts.Need-same-length-6 (infer-claims t) (infer-at t) infer.Post
-same-length-6 t c = search needs
-
 returns-6 : (t : ℕ) → infer-lts.Need-returns-6 (infer-claims t) (infer-at t) infer.Post
 unfolding Headed
 returns-6 t c Γ e S =
     let node = subject-headed S (ap meaning-of (sym (c .before .before .before .before .before .enum-told5 .given .1)) ∙ c .before .before .before .before .before .before .before .classify .ensures) in
     rw (node .2) (c .before .before .cast-up .ensures Γ (node .0) (node .1) (renamed S (node .2)))
 
-same-length-7 : (t : ℕ) → infer-lts.Need-same-length-7 (infer-claims t) (infer-at t) infer.Post
-same-length-7 t c = search needs
-
 returns-7 : (t : ℕ) → infer-lts.Need-returns-7 (infer-claims t) (infer-at t) infer.Post
 unfolding Headed
 returns-7 t c Γ e S =
     let node = subject-headed S (ap meaning-of (sym (c .before .before .before .before .before .enum-told6 .given .1)) ∙ c .before .before .before .before .before .before .before .classify .ensures) in
     rw (node .1) (c .before .before .cast-down .ensures Γ (node .0) (renamed S (node .1)))
-
-same-length-8 : (t : ℕ) → infer-lts.Need-same-length-8 (infer-claims t) (infer-at t) infer.Post
-same-length-8 t c = search needs
 
 returns-8 : (t : ℕ) → infer-lts.Need-returns-8 (infer-claims t) (infer-at t) infer.Post
 unfolding Headed
@@ -251,48 +168,11 @@ returns-9 t c Γ e S = absurd (subject-headed S (ap meaning-of (sym (c .before .
 pub infer-part : (M : Type 1) (t : ℕ) → infer-lts.Closed (infer-claims t) (infer-at t) infer.Post M
 infer-part M t =
     infer-lts.spec (infer-claims t) (infer-at t) infer.Post
-    (sub-place t)
-    (shared-slice-read-classify t)
-    (classify-requires t)
-    (enum-told t)
-    (mul-work t)
-    (slice-write-work t)
-    (enum-known-index t)
-    (sub-binder t)
-    (wide-requires t)
-    (sub-binder-2 t)
-    (mul-wide t)
-    (element-copy-out-wide t)
-    (wide-requires-2 t)
-    (variable-requires t)
-    (enum-told-2 t)
-    (application-requires t)
-    (enum-told-3 t)
-    (abstraction-requires t)
-    (enum-told-4 t)
-    (product-requires t)
-    (enum-told-5 t)
-    (cast-up-requires t)
-    (enum-told-6 t)
-    (cast-down-requires t)
-    (enum-told-7 t)
-    (recursion-requires t)
-    (enum-told-8 t)
-    (refused-requires t)
-    (same-length t)
-    (returns t)
-    (same-length-2 t)
-    (returns-2 t)
-    (same-length-3 t)
-    (returns-3 t)
-    (same-length-4 t)
-    (returns-4 t)
-    (same-length-5 t)
-    (returns-5 t)
-    (same-length-6 t)
-    (returns-6 t)
-    (same-length-7 t)
-    (returns-7 t)
-    (same-length-8 t)
-    (returns-8 t)
-    (returns-9 t)
+    (λ c. search needs) (λ c. subject-some (c .before .before .before .before .pre .1 .2)) (λ c. search needs) (λ c. search needs)
+    (λ c. search needs) (λ c. search needs) (λ c. search needs) (sub-binder t) (λ c. search needs) (sub-binder-2 t)
+    (λ c. search needs) (λ c. search needs) (λ c. search needs) (variable-requires t) (λ c. search needs) (application-requires t)
+    (λ c. search needs) (abstraction-requires t) (λ c. search needs) (product-requires t) (λ c. search needs) (cast-up-requires t)
+    (λ c. search needs) (cast-down-requires t) (λ c. search needs) (recursion-requires t) (λ c. search needs) (λ c. search needs)
+    (λ c. search needs) (returns t) (λ c. search needs) (returns-2 t) (λ c. search needs) (returns-3 t) (λ c. search needs)
+    (returns-4 t) (λ c. search needs) (returns-5 t) (λ c. search needs) (returns-6 t) (λ c. search needs) (returns-7 t)
+    (λ c. search needs) (returns-8 t) (returns-9 t)

@@ -39,18 +39,6 @@ module _ (L : ℕ) (Γ : Context) (p : ℕ) (a b : Term) where
   unfolding infer _>>=_ _>>_ require size
   by-both f g h = rw (f, equal star, g, equal star) (fitting p star h)
 
-sub-place : (t : ℕ) → product-lts.Need-sub-place (product-claims t) (product-at t) product.Post
-sub-place t c = search needs
-
-sub-star-part : (t : ℕ) → product-lts.Need-sub-star-part (product-claims t) (product-at t) product.Post
-sub-star-part t c = subject-some (c .before .before .before .pre .1 .3)
-
-part-star-part-start : (t : ℕ) → product-lts.Need-part-star-part-start (product-claims t) (product-at t) product.Post
-part-star-part-start t c = subject-some (c .before .before .before .pre .1 .3)
-
-part-star-part-end : (t : ℕ) → product-lts.Need-part-star-part-end (product-claims t) (product-at t) product.Post
-part-star-part-end t c = search needs
-
 star-part-requires : (t : ℕ) → product-lts.Need-star-part-requires (product-claims t) (product-at t) product.Post
 star-part-requires t c κs =
     let start = c .before .before .before .before .before .before in
@@ -59,29 +47,14 @@ star-part-requires t c κs =
       (_, _, first S of-pi, roomy-part (start .pre .1 .4) (two-levels of-pi .0) refl (omega arith)),
     )
 
-enum-known-domain : (t : ℕ) → product-lts.Need-enum-known-domain (product-claims t) (product-at t) product.Post
-enum-known-domain t c = search needs
-
-enum-told : (t : ℕ) → product-lts.Need-enum-told (product-claims t) (product-at t) product.Post
-enum-told t c = search needs
-
-same-length : (t : ℕ) → product-lts.Need-same-length (product-claims t) (product-at t) product.Post
-same-length t c = search needs
-
 returns : (t : ℕ) → product-lts.Need-returns (product-claims t) (product-at t) product.Post
 returns t c Γ a b S =
     passed _ (c .before .before .before .before .star-part .ensures Γ a (first S of-pi)) (c .enum-told .given .1) (by-domain _ Γ _ a b (place-first S))
-
-add-narrow : (t : ℕ) → product-lts.Need-add-narrow (product-claims t) (product-at t) product.Post
-add-narrow t c = search needs
 
 narrow-requires : (t : ℕ) → product-lts.Need-narrow-requires (product-claims t) (product-at t) product.Post
 narrow-requires t c κs =
     let S = c .before .before .before .before .before .before .before .before .before .before .before .before .pre .1 .3 in
     omega (arith, subject-some S, S .within, S .short)
-
-mul-context : (t : ℕ) → product-lts.Need-mul-context (product-claims t) (product-at t) product.Post
-mul-context t c = search needs
 
 element-write-context : (t : ℕ) → product-lts.Need-element-write-context (product-claims t) (product-at t) product.Post
 element-write-context t c = subject-shallow (c .before .before .before .before .before .before .before .before .before .before .before .before .before .pre .1 .3)
@@ -106,12 +79,6 @@ part-star-part-start-2 t c =
     let S = c .before .before .before .before .before .before .before .before .before .before .before .before .before .pre .1 .3 in
     omega (arith, reaches S _ (typed (c .before .before .before .before .before .before .star-part .ensures _ _ (first S of-pi)) (c .before .before .domain .given .1)) of-pi)
 
-part-star-part-end-2 : (t : ℕ) → product-lts.Need-part-star-part-end-2 (product-claims t) (product-at t) product.Post
-part-star-part-end-2 t c = search needs
-
-add-star-part : (t : ℕ) → product-lts.Need-add-star-part (product-claims t) (product-at t) product.Post
-add-star-part t c = search needs
-
 star-part-requires-2 : (t : ℕ) → product-lts.Need-star-part-requires-2 (product-claims t) (product-at t) product.Post
 star-part-requires-2 t c κs =
     let start = c .before .before .before .before .before .before .before .before .before .before .before .before .before .before .before .before in
@@ -125,23 +92,12 @@ star-part-requires-2 t c κs =
       ),
     )
 
-enum-known-codomain : (t : ℕ) → product-lts.Need-enum-known-codomain (product-claims t) (product-at t) product.Post
-enum-known-codomain t c = search needs
-
-enum-told-2 : (t : ℕ) → product-lts.Need-enum-told-2 (product-claims t) (product-at t) product.Post
-enum-told-2 t c = search needs
-
-same-length-2 : (t : ℕ) → product-lts.Need-same-length-2 (product-claims t) (product-at t) product.Post
-same-length-2 t c = search needs
-
 returns-2 : (t : ℕ) → product-lts.Need-returns-2 (product-claims t) (product-at t) product.Post
 returns-2 t c Γ a b S =
     let part = typed (c .before .before .before .before .before .before .before .before .before .before .before .before .before .before .star-part .ensures Γ a (first S of-pi)) (c .before .before .before .before .before .before .before .before .before .before .domain .given .1) in
-    passed
-    _
+    passed _
     (c .before .before .before .before .star-part2 .ensures (a ∷ Γ) b (below S _ part _ of-pi (c .before .before .before .before .before .before .before .before .narrow .ensures)))
-    (c .enum-told2 .given .1)
-    (by-codomain _ Γ _ a b (annotation-found S _ part) (second-place S _ part of-pi))
+    (c .enum-told2 .given .1) (by-codomain _ Γ _ a b (annotation-found S _ part) (second-place S _ part of-pi))
 
 add-t15 : (t : ℕ) → product-lts.Need-add-t15 (product-claims t) (product-at t) product.Post
 add-t15 t c =
@@ -150,17 +106,13 @@ add-t15 t c =
     let body = typed (c .before .before .before .before .before .star-part2 .ensures _ _ (below S _ part _ of-pi (c .before .before .before .before .before .before .before .before .before .narrow .ensures))) (c .before .codomain .given .1) in
     record { fits = omega (arith, subject-parts S of-pi, part .read, body .read, S .within, S .short) }
 
-same-length-3 : (t : ℕ) → product-lts.Need-same-length-3 (product-claims t) (product-at t) product.Post
-same-length-3 t c = search needs
-
 returns-3 : (t : ℕ) → product-lts.Need-returns-3 (product-claims t) (product-at t) product.Post
 returns-3 t c Γ a b S =
     let part = typed (c .before .before .before .before .before .before .before .before .before .before .before .before .before .before .before .star-part .ensures Γ a (first S of-pi)) (c .before .before .before .before .before .before .before .before .before .before .before .domain .given .1) in
     let body = typed (c .before .before .before .before .before .star-part2 .ensures (a ∷ Γ) b (below S _ part _ of-pi (c .before .before .before .before .before .before .before .before .before .narrow .ensures))) (c .before .codomain .given .1) in
     found
     (by-both _ Γ _ a b
-    (annotation-found S _ part)
-    (rw (← second-place S _ part of-pi) (starred _ (a ∷ Γ) _ b (body .found)))
+    (annotation-found S _ part) (rw (← second-place S _ part of-pi) (starred _ (a ∷ Γ) _ b (body .found)))
     (c .before .before .before .before .before .before .before .before .before .before .before .before .before .before .before .before .before .before .before .before .before .before .pre .1 .4 .some))
     (record {
       answer = unfold size in ap (λ n. inferred.Typed n 1) (omega (arith, part .read, body .read));
@@ -173,30 +125,9 @@ returns-3 t c Γ a b S =
 pub product-part : (M : Type 1) (t : ℕ) → product-lts.Closed (product-claims t) (product-at t) product.Post M
 product-part M t =
     product-lts.spec (product-claims t) (product-at t) product.Post
-    (sub-place t)
-    (sub-star-part t)
-    (part-star-part-start t)
-    (part-star-part-end t)
-    (star-part-requires t)
-    (enum-known-domain t)
-    (enum-told t)
-    (same-length t)
-    (returns t)
-    (add-narrow t)
-    (narrow-requires t)
-    (mul-context t)
-    (element-write-context t)
-    (add-front t)
-    (mul-star-part t)
-    (sub-star-part-2 t)
-    (part-star-part-start-2 t)
-    (part-star-part-end-2 t)
-    (add-star-part t)
-    (star-part-requires-2 t)
-    (enum-known-codomain t)
-    (enum-told-2 t)
-    (same-length-2 t)
-    (returns-2 t)
-    (add-t15 t)
-    (same-length-3 t)
-    (returns-3 t)
+    (λ c. search needs) (λ c. subject-some (c .before .before .before .pre .1 .3))
+    (λ c. subject-some (c .before .before .before .pre .1 .3)) (λ c. search needs) (star-part-requires t) (λ c. search needs)
+    (λ c. search needs) (λ c. search needs) (returns t) (λ c. search needs) (narrow-requires t) (λ c. search needs)
+    (element-write-context t) (add-front t) (mul-star-part t) (sub-star-part-2 t) (part-star-part-start-2 t) (λ c. search needs)
+    (λ c. search needs) (star-part-requires-2 t) (λ c. search needs) (λ c. search needs) (λ c. search needs) (returns-2 t)
+    (add-t15 t) (λ c. search needs) (returns-3 t)

@@ -27,18 +27,6 @@ use Rattle.typing.proofs.inference.+abstraction+application+cast_down+c
 use Rattle.typing.proofs.inference.+abstraction+application+cast_down+cast_up+infer+product+recursion+star_part.Proof.Measures.{recursion-at, recursion-claims}
 use Rattle.typing.proofs.inference.+abstraction+application+cast_down+cast_up+infer+product+recursion+star_part.Proof.Recursion.Known.{reach, copied, both, room, behind-type, compared}
 
-sub-place : (t : ℕ) → recursion-lts.Need-sub-place (recursion-claims t) (recursion-at t) recursion.Post
-sub-place t c = search needs
-
-sub-star-part : (t : ℕ) → recursion-lts.Need-sub-star-part (recursion-claims t) (recursion-at t) recursion.Post
-sub-star-part t c = omega (arith, subject-some (c .before .before .before .pre .1 .3))
-
-part-star-part-start : (t : ℕ) → recursion-lts.Need-part-star-part-start (recursion-claims t) (recursion-at t) recursion.Post
-part-star-part-start t c = omega (arith, subject-some (c .before .before .before .pre .1 .3))
-
-part-star-part-end : (t : ℕ) → recursion-lts.Need-part-star-part-end (recursion-claims t) (recursion-at t) recursion.Post
-part-star-part-end t c = search needs
-
 star-part-requires : (t : ℕ) → recursion-lts.Need-star-part-requires (recursion-claims t) (recursion-at t) recursion.Post
 star-part-requires t c κs =
     let start = c .before .before .before .before .before .before in
@@ -52,51 +40,18 @@ star-part-requires t c κs =
       ),
     )
 
-enum-known-annotation : (t : ℕ) → recursion-lts.Need-enum-known-annotation (recursion-claims t) (recursion-at t) recursion.Post
-enum-known-annotation t c = search needs
-
-enum-told : (t : ℕ) → recursion-lts.Need-enum-told (recursion-claims t) (recursion-at t) recursion.Post
-enum-told t c = search needs
-
-same-length : (t : ℕ) → recursion-lts.Need-same-length (recursion-claims t) (recursion-at t) recursion.Post
-same-length t c = search needs
-
 returns : (t : ℕ) → recursion-lts.Need-returns (recursion-claims t) (recursion-at t) recursion.Post
 returns t c Γ a e S =
     let after-star-part = c .before .before .before .before in
     passed _ (after-star-part .star-part .ensures Γ a (first S of-mu)) (c .enum-told .given .1) (mu-annotation _ Γ _ _ a e (place-first S))
-
-add-narrow : (t : ℕ) → recursion-lts.Need-add-narrow (recursion-claims t) (recursion-at t) recursion.Post
-add-narrow t c = search needs
 
 narrow-requires : (t : ℕ) → recursion-lts.Need-narrow-requires (recursion-claims t) (recursion-at t) recursion.Post
 narrow-requires t c κs =
     let start = c .before .before .before .before .before .before .before .before .before .before .before .before in
     omega (arith, subject-some (start .pre .1 .3), start .pre .1 .3 .within, start .pre .1 .3 .short)
 
-mul-context : (t : ℕ) → recursion-lts.Need-mul-context (recursion-claims t) (recursion-at t) recursion.Post
-mul-context t c = search needs
-
 element-write-context : (t : ℕ) → recursion-lts.Need-element-write-context (recursion-claims t) (recursion-at t) recursion.Post
 element-write-context t c = omega (arith, subject-shallow (c .before .before .before .before .before .before .before .before .before .before .before .before .before .pre .1 .3))
-
-add-front : (t : ℕ) → recursion-lts.Need-add-front (recursion-claims t) (recursion-at t) recursion.Post
-add-front t c = omega (arith, reach t (c .before))
-
-mul-infer : (t : ℕ) → recursion-lts.Need-mul-infer (recursion-claims t) (recursion-at t) recursion.Post
-mul-infer t c = omega (arith, reach t (c .before))
-
-sub-infer : (t : ℕ) → recursion-lts.Need-sub-infer (recursion-claims t) (recursion-at t) recursion.Post
-sub-infer t c = omega (arith, reach t (c .before))
-
-part-infer-start : (t : ℕ) → recursion-lts.Need-part-infer-start (recursion-claims t) (recursion-at t) recursion.Post
-part-infer-start t c = omega (arith, reach t (c .before))
-
-part-infer-end : (t : ℕ) → recursion-lts.Need-part-infer-end (recursion-claims t) (recursion-at t) recursion.Post
-part-infer-end t c = search needs
-
-add-infer : (t : ℕ) → recursion-lts.Need-add-infer (recursion-claims t) (recursion-at t) recursion.Post
-add-infer t c = search needs
 
 infer-requires : (t : ℕ) → recursion-lts.Need-infer-requires (recursion-claims t) (recursion-at t) recursion.Post
 infer-requires t c κs =
@@ -115,15 +70,6 @@ infer-requires t c κs =
       ),
     )
 
-enum-known-body : (t : ℕ) → recursion-lts.Need-enum-known-body (recursion-claims t) (recursion-at t) recursion.Post
-enum-known-body t c = search needs
-
-enum-told-2 : (t : ℕ) → recursion-lts.Need-enum-told-2 (recursion-claims t) (recursion-at t) recursion.Post
-enum-told-2 t c = search needs
-
-same-length-2 : (t : ℕ) → recursion-lts.Need-same-length-2 (recursion-claims t) (recursion-at t) recursion.Post
-same-length-2 t c = search needs
-
 returns-2 : (t : ℕ) → recursion-lts.Need-returns-2 (recursion-claims t) (recursion-at t) recursion.Post
 returns-2 t c Γ a e S =
     let after-infer = c .before .before .before .before in
@@ -131,17 +77,9 @@ returns-2 t c Γ a e S =
     let after-annotation = after-narrow .before .before in
     let after-star-part = after-annotation .before .before .before .before in
     let A = typed (after-star-part .star-part .ensures Γ a (first S of-mu)) (after-annotation .annotation .given .1) in
-    passed
-    _
+    passed _
     (after-infer .infer .ensures (a ∷ Γ) e (below S _ A (after-narrow .narrow .result) of-mu (after-narrow .narrow .ensures)))
-    (c .enum-told2 .given .1)
-    (mu-body _ Γ _ _ a e (annotation-found S _ A) (second-place S _ A (of-mu {e = e})))
-
-refused-requires : (t : ℕ) → recursion-lts.Need-refused-requires (recursion-claims t) (recursion-at t) recursion.Post
-refused-requires t c κs = search needs
-
-same-length-3 : (t : ℕ) → recursion-lts.Need-same-length-3 (recursion-claims t) (recursion-at t) recursion.Post
-same-length-3 t c = search needs
+    (c .enum-told2 .given .1) (mu-body _ Γ _ _ a e (annotation-found S _ A) (second-place S _ A (of-mu {e = e})))
 
 returns-3 : (t : ℕ) → recursion-lts.Need-returns-3 (recursion-claims t) (recursion-at t) recursion.Post
 returns-3 t c Γ a e S =
@@ -154,12 +92,6 @@ add-next t c =
     let after-star-part = after-infer .before .before .before .before .before .before .before .before .before .before in
     let start = after-star-part .before .before .before .before .before .before .before in
     omega (arith, room t (c .before), start .good .1 .1 .1 .1 .0 .0, after-star-part .star-part .kept .1 .1 .1 .1 .0, after-infer .infer .kept .1 .1 .1 .1 .0)
-
-sub-raise : (t : ℕ) → recursion-lts.Need-sub-raise (recursion-claims t) (recursion-at t) recursion.Post
-sub-raise t c = search needs
-
-part-raise-start : (t : ℕ) → recursion-lts.Need-part-raise-start (recursion-claims t) (recursion-at t) recursion.Post
-part-raise-start t c = search needs
 
 part-raise-end : (t : ℕ) → recursion-lts.Need-part-raise-end (recursion-claims t) (recursion-at t) recursion.Post
 part-raise-end t c = omega (arith, reach t (c .before .before .before .before .before .before .before .before .before .before .before))
@@ -181,23 +113,11 @@ same-requires t c κs =
     let k = c .before .before .before .raise .kept .1 .1 .0 in
     (omega arith, omega arith)
 
-refused-requires-2 : (t : ℕ) → recursion-lts.Need-refused-requires-2 (recursion-claims t) (recursion-at t) recursion.Post
-refused-requires-2 t c κs = search needs
-
-same-length-4 : (t : ℕ) → recursion-lts.Need-same-length-4 (recursion-claims t) (recursion-at t) recursion.Post
-same-length-4 t c = search needs
-
 returns-4 : (t : ℕ) → recursion-lts.Need-returns-4 (recursion-claims t) (recursion-at t) recursion.Post
 returns-4 t c Γ a e S =
     let after-known-told2 = c .before .before .before .before .before .before .before .before .before .before in
     let B = both t after-known-told2 Γ a e S in
     turned (mu-other B (λ x. compared t (c .before .before) Γ a e S .0 (c .before .if2 .taken) (sym x))) (c .refused2 .ensures)
-
-sub-copy : (t : ℕ) → recursion-lts.Need-sub-copy (recursion-claims t) (recursion-at t) recursion.Post
-sub-copy t c = search needs
-
-part-copy-start : (t : ℕ) → recursion-lts.Need-part-copy-start (recursion-claims t) (recursion-at t) recursion.Post
-part-copy-start t c = search needs
 
 part-copy-end : (t : ℕ) → recursion-lts.Need-part-copy-end (recursion-claims t) (recursion-at t) recursion.Post
 part-copy-end t c = omega (arith, reach t (c .before .before .before .before .before .before .before .before .before .before .before .before .before .before .before .before .before .before .before))
@@ -244,11 +164,7 @@ returns-5 t c Γ a e S =
     let k = after-raise .raise .kept .1 .1 .0 in
     found
     (mu-typed B (sym (compared t after-same Γ a e S .1 (else2 .if2 .left))) (omega (arith, B .read)))
-    (written-type
-    (after-raise .raise .last .1 .1 .0)
-    a
-    (omega (arith, B .read, B .further))
-    (B .read)
+    (written-type (after-raise .raise .last .1 .1 .0) a (omega (arith, B .read, B .further)) (B .read)
     (wrote a (c .before .before .copy .ensures) (copied t after-known-told Γ a e S) (omega (arith, B .read)))
     (omega (arith, B .read))
     (ap (take (start .args .top)) (behind-type t after-raise Γ a e S)
@@ -260,46 +176,12 @@ returns-5 t c Γ a e S =
 pub recursion-part : (M : Type 1) (t : ℕ) → recursion-lts.Closed (recursion-claims t) (recursion-at t) recursion.Post M
 recursion-part M t =
     recursion-lts.spec (recursion-claims t) (recursion-at t) recursion.Post
-    (sub-place t)
-    (sub-star-part t)
-    (part-star-part-start t)
-    (part-star-part-end t)
-    (star-part-requires t)
-    (enum-known-annotation t)
-    (enum-told t)
-    (same-length t)
-    (returns t)
-    (add-narrow t)
-    (narrow-requires t)
-    (mul-context t)
-    (element-write-context t)
-    (add-front t)
-    (mul-infer t)
-    (sub-infer t)
-    (part-infer-start t)
-    (part-infer-end t)
-    (add-infer t)
-    (infer-requires t)
-    (enum-known-body t)
-    (enum-told-2 t)
-    (same-length-2 t)
-    (returns-2 t)
-    (refused-requires t)
-    (same-length-3 t)
-    (returns-3 t)
-    (add-next t)
-    (sub-raise t)
-    (part-raise-start t)
-    (part-raise-end t)
-    (raise-requires t)
-    (same-requires t)
-    (refused-requires-2 t)
-    (same-length-4 t)
-    (returns-4 t)
-    (sub-copy t)
-    (part-copy-start t)
-    (part-copy-end t)
-    (copy-requires t)
-    (add-t31 t)
-    (same-length-5 t)
-    (returns-5 t)
+    (λ c. search needs) (λ c. omega (arith, subject-some (c .before .before .before .pre .1 .3)))
+    (λ c. omega (arith, subject-some (c .before .before .before .pre .1 .3))) (λ c. search needs) (star-part-requires t)
+    (λ c. search needs) (λ c. search needs) (λ c. search needs) (returns t) (λ c. search needs) (narrow-requires t)
+    (λ c. search needs) (element-write-context t) (λ c. omega (arith, reach t (c .before)))
+    (λ c. omega (arith, reach t (c .before))) (λ c. omega (arith, reach t (c .before))) (λ c. omega (arith, reach t (c .before)))
+    (λ c. search needs) (λ c. search needs) (infer-requires t) (λ c. search needs) (λ c. search needs) (λ c. search needs)
+    (returns-2 t) (λ c κs. search needs) (λ c. search needs) (returns-3 t) (add-next t) (λ c. search needs) (λ c. search needs)
+    (part-raise-end t) (raise-requires t) (same-requires t) (λ c κs. search needs) (λ c. search needs) (returns-4 t)
+    (λ c. search needs) (λ c. search needs) (part-copy-end t) (copy-requires t) (add-t31 t) (same-length-5 t) (returns-5 t)

@@ -47,9 +47,7 @@ starred L p {top} {m} {after} S part q w =
   where
     x : part .type ≡ star
     x =
-        subst
-        (λ k. Headed k (part .type))
-        (sym w)
+        subst (λ k. Headed k (part .type)) (sym w)
         (lying-headed (part .type) m top after (part .lies) (part .long) (deeper-scoped S (part .type) (type-scoped S L p (part .found))))
 
 -- A type whose first word is not that of star.
@@ -66,40 +64,10 @@ infer-requires t c κs =
     let start = c .before .before .before .before .before in
     (omega (arith, start .pre .0), start .pre .1)
 
-enum-told : (t : ℕ) → star-part-lts.Need-enum-told (star-part-claims t) (star-part-at t) star-part.Post
-enum-told t c = search needs
-
-enum-told-2 : (t : ℕ) → star-part-lts.Need-enum-told-2 (star-part-claims t) (star-part-at t) star-part.Post
-enum-told-2 t c = search needs
-
-same-length : (t : ℕ) → star-part-lts.Need-same-length (star-part-claims t) (star-part-at t) star-part.Post
-same-length t c = search needs
-
 returns : (t : ℕ) → star-part-lts.Need-returns (star-part-claims t) (star-part-at t) star-part.Post
 unfolding star-typed
 returns t c Γ e S =
     passed _ (c .before .before .before .before .infer .ensures Γ e S) (c .enum-told2 .given .1) refl
-
-mul-classify : (t : ℕ) → star-part-lts.Need-mul-classify (star-part-claims t) (star-part-at t) star-part.Post
-mul-classify t c = search needs
-
-slice-read-classify : (t : ℕ) → star-part-lts.Need-slice-read-classify (star-part-claims t) (star-part-at t) star-part.Post
-slice-read-classify t c = search needs
-
-classify-requires : (t : ℕ) → star-part-lts.Need-classify-requires (star-part-claims t) (star-part-at t) star-part.Post
-classify-requires t c = search needs
-
-enum-told-3 : (t : ℕ) → star-part-lts.Need-enum-told-3 (star-part-claims t) (star-part-at t) star-part.Post
-enum-told-3 t c = search needs
-
-sub-refused : (t : ℕ) → star-part-lts.Need-sub-refused (star-part-claims t) (star-part-at t) star-part.Post
-sub-refused t c = search needs
-
-refused-requires : (t : ℕ) → star-part-lts.Need-refused-requires (star-part-claims t) (star-part-at t) star-part.Post
-refused-requires t c = search needs
-
-same-length-2 : (t : ℕ) → star-part-lts.Need-same-length-2 (star-part-claims t) (star-part-at t) star-part.Post
-same-length-2 t c = search needs
 
 returns-2 : (t : ℕ) → star-part-lts.Need-returns-2 (star-part-claims t) (star-part-at t) star-part.Post
 returns-2 t c Γ e S =
@@ -109,9 +77,6 @@ returns-2 t c Γ e S =
     not-star (classify .result) (c .before .match2 .keys2) (classify .ensures ∙ x))
     (c .refused .ensures)
 
-same-length-3 : (t : ℕ) → star-part-lts.Need-same-length-3 (star-part-claims t) (star-part-at t) star-part.Post
-same-length-3 t c = search needs
-
 returns-3 : (t : ℕ) → star-part-lts.Need-returns-3 (star-part-claims t) (star-part-at t) star-part.Post
 returns-3 t c Γ e S =
     let q = c .before .before .before .before .enum-told .given .1 in
@@ -120,18 +85,6 @@ returns-3 t c Γ e S =
 pub star-part-part : (M : Type 1) (t : ℕ) → star-part-lts.Closed (star-part-claims t) (star-part-at t) star-part.Post M
 star-part-part M t =
     star-part-lts.spec (star-part-claims t) (star-part-at t) star-part.Post
-    (infer-requires t)
-    (enum-told t)
-    (enum-told-2 t)
-    (same-length t)
-    (returns t)
-    (mul-classify t)
-    (slice-read-classify t)
-    (classify-requires t)
-    (enum-told-3 t)
-    (sub-refused t)
-    (refused-requires t)
-    (same-length-2 t)
-    (returns-2 t)
-    (same-length-3 t)
-    (returns-3 t)
+    (infer-requires t) (λ c. search needs) (λ c. search needs) (λ c. search needs) (returns t) (λ c. search needs)
+    (λ c. search needs) (λ c. search needs) (λ c. search needs) (λ c. search needs) (λ c. search needs) (λ c. search needs)
+    (returns-2 t) (λ c. search needs) (returns-3 t)

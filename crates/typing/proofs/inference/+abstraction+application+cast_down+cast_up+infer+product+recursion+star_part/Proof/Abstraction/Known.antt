@@ -40,10 +40,8 @@ pub skips : (t : ℕ) (c : abstraction-lts.Joined1 (abstraction-claims t) (abstr
     → let start = c .before .before .before .before .before .before .before .before .before .before .before .before .before .before in
     (c .if1 .skip ≤ start .args .limit) × (1 + c .before .before .before .annotation .given .0 .0 ≤ start .args .limit → c .if1 .skip ≡ 1 + c .before .before .before .annotation .given .0 .0)
 skips t c =
-    ⊎-elim
-    (λ w. let h = w .0 .taken in let q = w .1 in (omega arith, λ _. q))
-    (λ w. let h = w .0 .left in let q = w .1 in (omega arith, λ x. absurd (omega arith)))
-    (c .if1 .came)
+    ⊎-elim (λ w. let h = w .0 .taken in let q = w .1 in (omega arith, λ _. q))
+    (λ w. let h = w .0 .left in let q = w .1 in (omega arith, λ x. absurd (omega arith))) (c .if1 .came)
 
 pub both : (t : ℕ) (c : abstraction-lts.After-known-told2 (abstraction-claims t) (abstraction-at t) abstraction.Post) (Γ : Context) (a e : Term)
     → let after-infer = c .before .before .before .before .before in
@@ -51,23 +49,10 @@ pub both : (t : ℕ) (c : abstraction-lts.After-known-told2 (abstraction-claims 
     let after-annotation = joined1 .before .before .before in
     let start = after-annotation .before .before .before .before .before .before .before .before .before .before .before in
     Subject Γ (lam a e) (start .args .term .now) (start .args .sub .now) (start .args .context .now) (start .args .depth)
-    → Both
-    (start .args .limit)
-    Γ
-    (a ∷ Γ)
-    (length (start .args .term .now) - length (start .args .sub .now))
-    a
-    e
-    (start .args .context .now)
-    (start .args .depth)
-    (start .args .work .now)
-    (start .args .top)
-    (start .args .top + joined1 .if1 .skip)
-    (after-annotation .annotation .given .0 .0)
-    (c .before .body .given .0 .0)
-    (c .before .body .given .0 .1 .0)
-    (after-infer .infer .last .1 .1 .1 .1 .0)
-    (after-infer .infer .last .1 .1 .0)
+    → Both (start .args .limit) Γ (a ∷ Γ) (length (start .args .term .now) - length (start .args .sub .now)) a e
+    (start .args .context .now) (start .args .depth) (start .args .work .now) (start .args .top)
+    (start .args .top + joined1 .if1 .skip) (after-annotation .annotation .given .0 .0) (c .before .body .given .0 .0)
+    (c .before .body .given .0 .1 .0) (after-infer .infer .last .1 .1 .1 .1 .0) (after-infer .infer .last .1 .1 .0)
 both t c Γ a e S =
     let after-infer = c .before .before .before .before .before in
     let after-narrow = after-infer .before .before .before .before .before .before in

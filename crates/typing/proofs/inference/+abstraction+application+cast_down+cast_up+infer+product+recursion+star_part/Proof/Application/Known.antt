@@ -51,29 +51,16 @@ pub calls : (t : ℕ) (c : application-lts.After-known-told2 (application-claims
     → let after-function = c .before .before .before .before .before .before .before .before .before in
     let start = after-function .before .before .before .before .before .before .before .before .before .before .before .before .before .before .before .before in
     Subject Γ (app f u) (start .args .term .now) (start .args .sub .now) (start .args .context .now) (start .args .depth)
-    → Called
-    (start .args .limit)
-    Γ
-    (length (start .args .term .now) - length (start .args .sub .now))
-    f
-    u
-    (start .args .context .now)
-    (start .args .depth)
-    (start .args .work .now)
-    (start .args .top)
-    (after-function .before .before .before .before .before .function .given .0 .0)
-    (c .before .argument .given .0 .0)
-    (after-function .before .before .before .before .before .function .given .0 .1 .0)
-    (c .before .argument .given .0 .1 .0)
+    → Called (start .args .limit) Γ (length (start .args .term .now) - length (start .args .sub .now)) f u
+    (start .args .context .now) (start .args .depth) (start .args .work .now) (start .args .top)
+    (after-function .before .before .before .before .before .function .given .0 .0) (c .before .argument .given .0 .0)
+    (after-function .before .before .before .before .before .function .given .0 .1 .0) (c .before .argument .given .0 .1 .0)
     (c .before .before .before .before .before .infer2 .last .1 .1 .1 .1 .0)
     (c .before .before .before .before .before .infer2 .last .1 .1 .0)
 calls t c Γ f u S =
     let after-function = c .before .before .before .before .before .before .before .before .before in
     let function = typed (after-function .before .before .before .before .before .before .before .before .before .infer .ensures Γ f (first S of-app)) (after-function .before .before .before .before .before .function .given .1) in
-    called
-    S
-    _
-    function
+    called S _ function
     (ap meaning-of (sym (after-function .enum-told2 .given .1)) ∙ after-function .before .before .classify .ensures)
     (typed (c .before .before .before .before .before .infer2 .ensures Γ u (argument-subject S _ function)) (c .before .argument .given .1))
 
@@ -103,32 +90,21 @@ measured t c Γ f u S =
     let C = calls t (after-span .before .before .before) Γ f u S in
     let same = c .before .same in
     right _ Γ _ f u (C .function) (C .argument)
-    (same-type
-    C
-    (domain-long t after-span Γ f u S)
-    (same .result)
-    (c .before .before .before .if1 .left)
-    (same .ensures)
+    (same-type C (domain-long t after-span Γ f u S) (same .result) (c .before .before .before .if1 .left) (same .ensures)
     (not-false (same .result) (c .if2 .left)))
 
 pub puts : (t : ℕ) (c : application-lts.After-put-in (application-claims t) (application-at t) application.Post) (Γ : Context) (f u : Term)
     → let after-argument = c .before .before .before .before .before .before .before .before .before .before in
     let start = after-argument .before .before .before .before .before .before .before .before .before .before .before .before .before .before .before .before .before .before .before .before .before .before .before .before .before in
     (S : Subject Γ (app f u) (start .args .term .now) (start .args .sub .now) (start .args .context .now) (start .args .depth))
-    → Puts
-    (substitute 0 u (calls t after-argument Γ f u S .codomain))
-    (after-argument .before .before .before .before .before .infer2 .last .1 .1 .1 .1 .0)
-    (start .args .top)
-    (start .args .limit)
-    (c .put-in .result)
-    (c .put-in .last .1 .1 .0)
+    → Puts (substitute 0 u (calls t after-argument Γ f u S .codomain))
+    (after-argument .before .before .before .before .before .infer2 .last .1 .1 .1 .1 .0) (start .args .top) (start .args .limit)
+    (c .put-in .result) (c .put-in .last .1 .1 .0)
 puts t c Γ f u S =
     let after-span = c .before .before .before .before .before .before .before in
     let after-argument = after-span .before .before .before in
     let after-function = after-argument .before .before .before .before .before .before .before .before .before in
     let C = calls t after-argument Γ f u S in
     c .put-in .ensures
-    (C .codomain)
-    u
-    (codomain-words C (domain-long t after-span Γ f u S))
+    (C .codomain) u (codomain-words C (domain-long t after-span Γ f u S))
     (argument-words S _ (typed (after-function .before .before .before .before .before .before .before .before .before .infer .ensures Γ f (first S of-app)) (after-function .before .before .before .before .before .function .given .1)) (C .further))

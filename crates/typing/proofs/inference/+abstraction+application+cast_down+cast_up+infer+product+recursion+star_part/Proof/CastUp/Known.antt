@@ -44,23 +44,10 @@ pub both : (t : ℕ) (c : cast-up-lts.After-known-told2 (cast-up-claims t) (cast
     let after-annotation = after-infer .before .before .before .before .before in
     let start = after-annotation .before .before .before .before .before .before .before .before .before .before .before in
     Subject Γ (castup a e) (start .args .term .now) (start .args .sub .now) (start .args .context .now) (start .args .depth)
-    → Both
-    (start .args .limit)
-    Γ
-    Γ
-    (length (start .args .term .now) - length (start .args .sub .now))
-    a
-    e
-    (start .args .context .now)
-    (start .args .depth)
-    (start .args .work .now)
-    (start .args .top)
-    (start .args .top)
-    (after-annotation .annotation .given .0 .0)
-    (c .before .body .given .0 .0)
-    (c .before .body .given .0 .1 .0)
-    (after-infer .infer .last .1 .1 .1 .1 .0)
-    (after-infer .infer .last .1 .1 .0)
+    → Both (start .args .limit) Γ Γ (length (start .args .term .now) - length (start .args .sub .now)) a e
+    (start .args .context .now) (start .args .depth) (start .args .work .now) (start .args .top) (start .args .top)
+    (after-annotation .annotation .given .0 .0) (c .before .body .given .0 .0) (c .before .body .given .0 .1 .0)
+    (after-infer .infer .last .1 .1 .1 .1 .0) (after-infer .infer .last .1 .1 .0)
 both t c Γ a e S =
     let after-infer = c .before .before .before .before .before in
     let after-annotation = after-infer .before .before .before .before .before in
