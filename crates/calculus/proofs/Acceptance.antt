@@ -8,7 +8,7 @@ use lib.ListN.{length, take, drop}
 use lib.Seq.{take-at}
 use Rattle.calculus.specs.Term.{Term, size}
 use Rattle.calculus.specs.Answer.{ok}
-use Rattle.calculus.specs.Words.{words, Readable}
+use Rattle.calculus.specs.Words.{words, Codes}
 use Rattle.calculus.specs.Rules.{_⊢_⦂_}
 use Rattle.calculus.specs.Limit.{_⊢⟨_⟩_⦂_}
 use Rattle.calculus.specs.Outcomes.{begun, Checked, check}
@@ -18,8 +18,7 @@ use Rattle.calculus.proofs.Types.{uniqueness}
 use Rattle.calculus.proofs.CheckDemand.{check-checks}
 
 pub record Accepted (ws : List ℕ) (L : ℕ) (n : ℕ) (output : List ℕ) (t τ : Term) : Type 0 where
-  pub coded : ws ≡ words t
-  pub readable : Readable t
+  pub coded : Codes ws t
   pub typing : [] ⊢⟨ L ⟩ t ⦂ τ
   pub extent : n ≡ size τ
   pub front : take n output ≡ words τ
@@ -36,14 +35,13 @@ accepted-as (limit-refused n) e = absurd (true≢false (cc e))
 accepted-as (work-refused a w) e = absurd (true≢false (cc e))
 accepted-as (output-refused a w o) e = absurd (true≢false (cc e))
 accepted-as (unread a w o r) e = absurd (true≢false (cc e))
-accepted-as (untyped a w o h c f) e = absurd (true≢false (cc e))
-accepted-as {O} {n} (typed {t} {τ} a w o h c d) e =
+accepted-as (untyped a w o c f) e = absurd (true≢false (cc e))
+accepted-as {O} {n} (typed {t} {τ} a w o c d) e =
     let extent : n ≡ size τ = cc e in (
       t,
       τ,
       record {
-        coded = h;
-        readable = c;
+        coded = c;
         typing = d;
         extent = extent;
         front = ap (λ k. take k (begun (words τ) O)) extent ∙ front-of-begun τ O;
@@ -62,7 +60,7 @@ agree : {ws : List ℕ} {L L′ n n′ : ℕ} {O O′ : List ℕ} {t t′ τ τ�
 agree {t} {t′} {τ} {τ′} a b = (a .extent ∙ ap size same ∙ sym (b .extent), a .front ∙ ap words same ∙ sym (b .front))
   where
     one : t′ ≡ t
-    one = words-injective t′ t (sym (b .coded) ∙ a .coded)
+    one = words-injective t′ t (sym (b .coded .0) ∙ a .coded .0)
 
     same : τ ≡ τ′
     same = uniqueness (a .typing .typed) (subst (λ x. [] ⊢ x ⦂ τ′) one (b .typing .typed))

@@ -11,7 +11,7 @@ use lib.Dec.{leb, lit≤}
 use lib.ListN.{length}
 use Rattle.calculus.specs.Term.{Term}
 use Rattle.calculus.specs.Answer.{Reason, Answer, ok, refused, _>>=_, _>>_, require, number}
-use Rattle.calculus.specs.Words.{words, Readable}
+use Rattle.calculus.specs.Words.{Codes}
 use Rattle.calculus.specs.Reading.{read}
 use Rattle.calculus.specs.Rules.{env-empty}
 use Rattle.calculus.specs.Limit.{_⊢⟨_⟩_⦂_}
@@ -54,11 +54,11 @@ module _ (ws : List ℕ) (L : ℕ) (W O : List ℕ) where
   check-answer (output-refused (h, k) w o) =
       rw (le-leb 1 L h, le-leb L largest-limit k, le-leb (check-room L) (length W) w, gt-leb L (length O) o) refl
   check-answer (unread {r} {p} a w o e) = rw (admitted a w o, e, le-leb (number r) 9 (read-reason ws r p e .1)) refl
-  check-answer (untyped {r} {p} {t} a w o e c f) =
+  check-answer (untyped {r} {p} {t} a w o c f) =
       rw
-      (admitted a w o, read-exactly ws t .1 (e, c), refused-complete f, gt-leb (number r) 9 (fails-reason f .0))
+      (admitted a w o, read-exactly ws t .1 c, refused-complete f, gt-leb (number r) 9 (fails-reason f .0))
       refl
-  check-answer (typed {t} a w o e c d) = rw (admitted a w o, read-exactly ws t .1 (e, c), infer-complete 0 d) refl
+  check-answer (typed {t} a w o c d) = rw (admitted a w o, read-exactly ws t .1 c, infer-complete 0 d) refl
 
   -- One of the cases holds.
   abbrev Outcome : Type 0
@@ -71,17 +71,16 @@ module _ (ws : List ℕ) (L : ℕ) (W O : List ℕ) where
           → Allowed L
           → check-room L ≤ length W
           → L ≤ length O
-          → ws ≡ words t
-          → Readable t
+          → Codes ws t
           → ((τ : Term) × ([] ⊢⟨ L ⟩ t ⦂ τ)) ⊎ ((r : Reason) × (p : ℕ) × Fails L [] 0 t r p)
           → Outcome
-      by-rules a w o h c (inl (τ, d)) = (_, typed a w o h c d)
-      by-rules a w o h c (inr (r, p, f)) = (_, untyped a w o h c f)
+      by-rules a w o c (inl (τ, d)) = (_, typed a w o c d)
+      by-rules a w o c (inr (r, p, f)) = (_, untyped a w o c f)
 
       by-reading : Allowed L → check-room L ≤ length W → L ≤ length O → (x : Answer Term) → read ws ≡ x → Outcome
       by-reading a w o (ok t) e =
-          let (h, c) = read-sound ws t e in
-          by-rules a w o h c (one-of-two L 0 t env-empty (c .closed))
+          let c = read-sound ws t e in
+          by-rules a w o c (one-of-two L 0 t env-empty (c .1 .closed))
       by-reading a w o (refused r p) e = (_, unread a w o e)
 
       by-output : Allowed L → check-room L ≤ length W → Dec (L ≤ length O) → Outcome
@@ -115,8 +114,8 @@ refused-by (limit-refused n) = (lit≤ tt, lit≤ tt)
 refused-by (work-refused a w) = (lit≤ tt, lit≤ tt)
 refused-by (output-refused a w o) = (lit≤ tt, lit≤ tt)
 refused-by {ws} (unread {r} {p} a w o e) = let (l, u) = read-reason ws r p e in omega arith
-refused-by (untyped a w o h c f) = let (l, u) = fails-reason f in omega arith
-refused-by (typed a w o h c d) = tt
+refused-by (untyped a w o c f) = let (l, u) = fails-reason f in omega arith
+refused-by (typed a w o c d) = tt
 
 pub check-refusals : CheckRefusals
 check-refusals ws L W O r p e = subst (RefusedBy 1 16) e (refused-by (check-checks ws L W O))

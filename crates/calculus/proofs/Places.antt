@@ -128,9 +128,9 @@ answered (limit-refused n) = says-refused zero-le
 answered (work-refused a w) = says-refused zero-le
 answered (output-refused a w o) = says-refused zero-le
 answered {ws} (unread a w o e) = says-refused (of-refused (rw e at (read-placed ws)))
-answered {L} (untyped {t} a w o h c f) =
-    says-refused (of-refused (rw (refused-complete f) at (infer-placed longest L [] 0 t (omega (arith, c .short)))))
-answered (typed a w o h c d) = says-ok (le-trans (type-fits d) (a .1))
+answered {L} (untyped {t} a w o c f) =
+    says-refused (of-refused (rw (refused-complete f) at (infer-placed longest L [] 0 t (omega (arith, c .1 .short)))))
+answered (typed a w o c d) = says-ok (le-trans (type-fits d) (a .1))
 
 pub check-within : (ws : List ℕ) (L : ℕ) (W O : List ℕ) → Says (λ n. n ≤ largest-limit) (λ _ p. p ≤ longest) (check ws L W O .answer)
 check-within ws L W O = answered (check-checks ws L W O)
@@ -139,7 +139,7 @@ ran : {ws : List ℕ} {budget allowance : ℕ} {W S : List ℕ} {c : Ran} → ru
 ran (runs.work-refused w) = says-refused zero-le
 ran (runs.state-refused w s) = says-refused zero-le
 ran {ws} (runs.unread w s e) = says-refused (of-refused (rw e at (read-placed ws)))
-ran (runs.ended w s h c k b l f) = says-ok tt
+ran (runs.ended w s c k b l f) = says-ok tt
 
 pub run-placed : (ws : List ℕ) (budget allowance : ℕ) (W S : List ℕ) → Placed longest (run ws budget allowance W S .answer)
 run-placed ws budget allowance W S = ran (run-runs ws budget allowance W S)

@@ -9,7 +9,7 @@ use native.Mathlib.Omega.{arith}
 use lib.Dec.{T, leb, leb→le, lit≤}
 use lib.ListN.{length}
 use Rattle.calculus.specs.Term.{Term, size}
-use Rattle.calculus.specs.Words.{words, Readable, longest, deepest}
+use Rattle.calculus.specs.Words.{words, Readable, Codes, longest, deepest}
 use Rattle.calculus.specs.Answer.{Reason, ok, refused, _>>=_, _>>_, require, number, length-not-allowed}
 use Rattle.calculus.specs.Reading.{Pending, scan, the-first, read}
 use Rattle.calculus.proofs.Comparisons.{le-leb}
@@ -37,23 +37,23 @@ one-term : (ws : List ℕ) (ts : List Term)
     → length ws ≤ longest
     → ws ≡ emits ts
     → Filled (whole ∷ []) ts
-    → (ws ≡ words (the-first ts)) × Readable (the-first ts)
+    → Codes ws (the-first ts)
 unfolding emits words the-first
 one-term ws ts short e (filled-one {t = t} h filled-none) =
     (e, record { closed = h .scoped; short = subst (λ n. n ≤ longest) (ap length e ∙ words-length t) short; shallow = h .within })
 
-read-says : (ws : List ℕ) → Says (λ t. (ws ≡ words t) × Readable t) No-term (read ws)
+read-says : (ws : List ℕ) → Says (Codes ws) No-term (read ws)
 unfolding read number
 read-says ws =
     says-then (says-require length-not-allowed 0 (leb 1 (length ws) && leb (length ws) longest) (lit≤ tt, lit≤ tt)) λ _ sized.
     says-bind (scan-says ws (whole ∷ []) 0) λ ts h.
     says-ok (one-term ws ts (leb→le (length ws) longest (second-test (leb 1 (length ws)) (leb (length ws) longest) sized)) (h .0) (h .1))
 
-pub read-sound : (ws : List ℕ) (t : Term) → read ws ≡ ok t → (ws ≡ words t) × Readable t
+pub read-sound : (ws : List ℕ) (t : Term) → read ws ≡ ok t → Codes ws t
 read-sound ws t e = of-ok (rw e at (read-says ws))
 
 pub read-reason : (ws : List ℕ) (r : Reason) (p : ℕ) → read ws ≡ refused r p → (4 ≤ number r) × (number r ≤ 9)
 read-reason ws r p e = of-refused (rw e at (read-says ws))
 
-pub read-exactly : (ws : List ℕ) (t : Term) → (read ws ≡ ok t) ↔ ((ws ≡ words t) × Readable t)
+pub read-exactly : (ws : List ℕ) (t : Term) → (read ws ≡ ok t) ↔ Codes ws t
 read-exactly ws t = (read-sound ws t, λ h. ap read (h .0) ∙ read-words t (h .1))

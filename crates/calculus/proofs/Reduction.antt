@@ -13,7 +13,7 @@ determinism s-beta (s-app h) = elim h [ ]
 determinism s-castdownup s-castdownup = refl
 determinism s-castdownup (s-castdown h) = elim h [ ]
 determinism (s-app h) s-beta = elim h [ ]
-determinism (s-app {u = u} h) (s-app k) = ap (λ f. app f u) (determinism h k)
+determinism (s-app {e₂ = u} h) (s-app k) = ap (λ f. app f u) (determinism h k)
 determinism (s-castdown h) s-castdownup = elim h [ ]
 determinism (s-castdown h) (s-castdown k) = ap castdown (determinism h k)
 determinism s-mu s-mu = refl
@@ -26,8 +26,8 @@ value-rests v-castup h = elim h [ ]
 
 pub step-sub : {e x : Term} (σ : ℕ → Term) → e ⟶ x → sub σ e ⟶ sub σ x
 unfolding sub traverse
-step-sub σ (s-beta {a = a} {e = e} {u = u}) = rw (sub-substitute σ u e) s-beta
+step-sub σ (s-beta {e₁ = e} {e₂ = u}) = rw (sub-substitute σ u e) s-beta
 step-sub σ s-castdownup = s-castdownup
 step-sub σ (s-app h) = s-app (step-sub σ h)
 step-sub σ (s-castdown h) = s-castdown (step-sub σ h)
-step-sub σ (s-mu {a = a} {e = e}) = rw (sub-substitute σ (mu a e) e) s-mu
+step-sub σ (s-mu {τ = a} {e = e}) = rw (sub-substitute σ (mu a e) e) s-mu

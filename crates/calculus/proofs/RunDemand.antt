@@ -24,11 +24,11 @@ module _ (ws : List ℕ) (budget allowance : ℕ) (W S : List ℕ) where
   run-answer (work-refused w) = rw (gt-leb run-room (length W) w) refl
   run-answer (state-refused w s) = rw (le-leb run-room (length W) w, gt-leb longest (length S) s) refl
   run-answer (unread w s e) = rw (le-leb run-room (length W) w, le-leb longest (length S) s, e) refl
-  run-answer (ended {E} {n} {t} {x} w s e c h b l f) =
+  run-answer (ended {E} {n} {t} {x} w s c h b l f) =
       rw (
         le-leb run-room (length W) w,
         le-leb longest (length S) s,
-        read-exactly ws t .1 (e, c),
+        read-exactly ws t .1 c,
         course-answer
             (min budget allowance)
             n
@@ -45,9 +45,9 @@ module _ (ws : List ℕ) (budget allowance : ℕ) (W S : List ℕ) where
     where
       by-reading : run-room ≤ length W → longest ≤ length S → (x : Answer Term) → read ws ≡ x → Outcome
       by-reading w s (ok t) e =
-          let (h, c) = read-sound ws t e in
-          let k = run-course (min budget allowance) t (c .short) in
-          (_, ended w s h c (k .last) (k .bounded) (k .within) (k .ends))
+          let c = read-sound ws t e in
+          let k = run-course (min budget allowance) t (c .1 .short) in
+          (_, ended w s c (k .last) (k .bounded) (k .within) (k .ends))
       by-reading w s (refused r p) e = (_, unread w s e)
 
       by-state : run-room ≤ length W → Dec (longest ≤ length S) → Outcome
@@ -72,7 +72,7 @@ unfolding number
 refused-by (work-refused w) = (lit≤ tt, lit≤ tt)
 refused-by (state-refused w s) = (lit≤ tt, lit≤ tt)
 refused-by {ws} (unread {r} {p} w s e) = let (l, u) = read-reason ws r p e in omega arith
-refused-by (ended w s h c k b l f) = tt
+refused-by (ended w s c k b l f) = tt
 
 pub run-refusals : RunRefusals
 run-refusals ws budget allowance W S r p e = subst (RefusedBy 2 9) e (refused-by (run-runs ws budget allowance W S))

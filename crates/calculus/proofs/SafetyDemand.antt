@@ -8,7 +8,7 @@ use mathlib.Core.Path.{_≡_, sym, _∙_, subst}
 use native.Mathlib.Decide.{decLe}
 use native.Mathlib.Omega.{arith}
 use Rattle.calculus.specs.Term.{Term, size}
-use Rattle.calculus.specs.Words.{words, Readable, longest}
+use Rattle.calculus.specs.Words.{Codes, longest}
 use Rattle.calculus.specs.Rules.{_⊢_⦂_}
 use Rattle.calculus.specs.Run.{State, state-zero, state-suc, End, at-stuck, Ends, ends-spent, ends-value, ends-stuck, ends-long}
 use Rattle.calculus.specs.Outcomes.{Ran, run}
@@ -50,19 +50,18 @@ state-before {t} k l (state-suc {k = m} {y = y} h s) = on (λ l. state-before k 
     on before (no n) = (y, subst (λ m. State t m y) (omega arith) (state-suc h s))
 
 safely : {ws : List ℕ} {budget allowance : ℕ} {W S : List ℕ} {t τ : Term} {c : Ran}
-    → ws ≡ words t
-    → Readable t
+    → Codes ws t
     → [] ⊢ t ⦂ τ
     → Runs ws budget allowance W S c
     → Safely t τ (min budget allowance) W S (c .answer)
-safely h r d (work-refused w) = work-refused′ w
-safely h r d (state-refused w s) = state-refused′ w s
-safely {ws} {t} h r d (unread w s e) = absurd (true≢false (cc (sym e ∙ read-exactly ws t .1 (h, r))))
-safely {t} {τ} h r d (ended {E} {n} {t = t′} {x} w s h′ r′ k b l f) =
+safely c d (work-refused w) = work-refused′ w
+safely c d (state-refused w s) = state-refused′ w s
+safely {ws} {t} c d (unread w s e) = absurd (true≢false (cc (sym e ∙ read-exactly ws t .1 c)))
+safely {t} {τ} c d (ended {E} {n} {t = t′} {x} w s c′ k b l f) =
     ended′ w s last f (not-stuck (state-typed d last) f) states
   where
     one : t′ ≡ t
-    one = words-injective t′ t (sym h′ ∙ h)
+    one = words-injective t′ t (sym (c′ .0) ∙ c .0)
 
     last : State t n x
     last = subst (λ z. State z n x) one k
@@ -80,7 +79,7 @@ demand3 = (runs-safely, λ Γ v τ. canonical)
         let (t, τ, a) = accepted ws L W₁ O₁ n e in (
           t,
           τ,
-          ((a .coded, a .readable), λ t′ p. words-injective t′ t (sym (p .0) ∙ a .coded)),
+          (a .coded, λ t′ p. words-injective t′ t (sym (p .0) ∙ a .coded .0)),
           (sym (a .front), λ τ′ p. words-injective τ′ τ (p ∙ a .front)),
-          safely (a .coded) (a .readable) (a .typing .typed) (run-runs ws budget allowance W S),
+          safely (a .coded) (a .typing .typed) (run-runs ws budget allowance W S),
         )

@@ -24,7 +24,7 @@ app-stuck {f} {u} i n = finds-stuck (λ v. elim v [ ]) (λ c. n (part i (c .1)))
   where
     part : {f x : Term} → IsStuck (applied f u) → app f u ⟶ x → CanStep f
     part i s-beta = absurd i
-    part i (s-app {f′ = f′} h) = (f′, h)
+    part i (s-app {e₁′ = f′} h) = (f′, h)
 
 castdown-stuck : {e : Term} → IsStuck (cancelled e) → ¬ CanStep e → Finds (castdown e) stuck
 unfolding cancelled

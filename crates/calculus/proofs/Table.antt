@@ -123,9 +123,9 @@ types-claim : (ws : List ℕ) (L : ℕ) (out : List ℕ) {t τ : Term}
     → Claim (types ws L out)
 unfolding Claim
 types-claim ws L out {t} {τ} a e i o =
-    let (w, c) = read-sound ws t e in
-    let d = infer-sound 0 env-empty (c .closed) i in
-    (t, τ, w, c, sym o, d, λ W O l m. rw (← o, words-length τ) (check-answer ws L W O (typed a l m w c d)))
+    let c = read-sound ws t e in
+    let d = infer-sound 0 env-empty (c .1 .closed) i in
+    (t, τ, c, sym o, d, λ W O l m. rw (← o, words-length τ) (check-answer ws L W O (typed a l m c d)))
 
 refuses-claim : (ws : List ℕ) (L : ℕ) (r : Reason) (p : ℕ) {t : Term}
     → Allowed L
@@ -134,9 +134,9 @@ refuses-claim : (ws : List ℕ) (L : ℕ) (r : Reason) (p : ℕ) {t : Term}
     → Claim (refuses ws L r p)
 unfolding Claim
 refuses-claim ws L r p {t} a e i =
-    let (w, c) = read-sound ws t e in
-    let f = refused-sound env-empty (c .closed) i in
-    (t, w, c, f, λ n τ d. no-type f n d, λ W O l m. check-answer ws L W O (untyped a l m w c f))
+    let c = read-sound ws t e in
+    let f = refused-sound env-empty (c .1 .closed) i in
+    (t, c, f, λ n τ d. no-type f n d, λ W O l m. check-answer ws L W O (untyped a l m c f))
 
 ends-claim : (ws : List ℕ) (budget : ℕ) (E : End) (n : ℕ) (out : List ℕ) {t x : Term}
     → read ws ≡ ok t
@@ -145,10 +145,9 @@ ends-claim : (ws : List ℕ) (budget : ℕ) (E : End) (n : ℕ) (out : List ℕ)
     → Claim (ends ws budget E n out)
 unfolding Claim
 ends-claim ws budget E n out {t} {x} e k o =
-    let (w, c) = read-sound ws t e in (
+    let c = read-sound ws t e in (
       t,
       x,
-      w,
       c,
       sym o,
       k .last,
@@ -157,7 +156,7 @@ ends-claim ws budget E n out {t} {x} e k o =
           let grant : budget ≡ min budget allowance = omega arith in
           rw
           (← o)
-          (run-answer ws budget allowance W S (ended l m w c (k .last) (k .bounded) (rw grant at (k .within)) (rw grant at (k .ends)))),
+          (run-answer ws budget allowance W S (ended l m c (k .last) (k .bounded) (rw grant at (k .within)) (rw grant at (k .ends)))),
     )
 
 -- A term that steps to itself is each of its states, so every run of it is spent.
@@ -179,12 +178,11 @@ unfolding Claim
 spins-claim ws {t} e s =
     let (w, c) = read-sound ws t e in (
       t,
-      w,
-      c,
+      (w, c),
       s,
       λ budget allowance W S l m.
           let k = spinning-course s (c .short) (min budget allowance) in
-          rw w (run-answer (words t) budget allowance W S (ended l m refl c (k .last) (k .bounded) (k .within) (k .ends))),
+          rw w (run-answer (words t) budget allowance W S (ended l m (refl, c) (k .last) (k .bounded) (k .within) (k .ends))),
     )
 
 -- A row that passes holds.

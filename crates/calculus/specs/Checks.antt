@@ -6,7 +6,7 @@ use mathlib.Core.Logic.{_↔_, _≢_, _⊎_}
 use lib.ListN.{length, take}
 use Rattle.calculus.specs.Term.{Term, size}
 use Rattle.calculus.specs.Answer.{ok, refused, Reason, number, limit-not-allowed, work-short, output-short, over-limit}
-use Rattle.calculus.specs.Words.{words, Readable}
+use Rattle.calculus.specs.Words.{words, Readable, Codes}
 use Rattle.calculus.specs.Reading.{read}
 use Rattle.calculus.specs.Rules.{_⊢_⦂_}
 use Rattle.calculus.specs.Limit.{_⊢⟨_⟩_⦂_}
@@ -15,47 +15,31 @@ use Rattle.calculus.specs.Outcomes.{largest-limit, check-room, begun, cl
 
 -- "Every list of words is one term or none, and each term of those sizes has one list."
 abbrev pub Coding : Type 0
-Coding = (ws : List ℕ) (t : Term) → (read ws ≡ ok t) ↔ ((ws ≡ words t) × Readable t)
+Coding = (ws : List ℕ) (t : Term) → (read ws ≡ ok t) ↔ Codes ws t
 
 -- A term's words begin no other term's, so a state is found in its slice with no length.
 abbrev pub PrefixFree : Type 0
 PrefixFree = (s t : Term) (j k : List ℕ) → words s ++ j ≡ words t ++ k → (s ≡ t) × (j ≡ k)
 
+-- "Check: L is 0 or above 1,024" is refused.
 abbrev pub Allowed : ℕ → Type 0
 Allowed L = (1 ≤ L) × (L ≤ largest-limit)
 
+-- `Checks ws L W O c`: a check of the words `ws` at the limit L, with the working slice W and the output slice O, leaves `c`: the
+-- first row of document 01's table that applies, and otherwise the type.
 pub data Checks (ws : List ℕ) (L : ℕ) (W O : List ℕ) : Checked → Type 0 where
   limit-refused : ¬ Allowed L → Checks ws L W O (record { answer = refused limit-not-allowed 0; work = W; output = O })
-  work-refused :
-      Allowed L
-      → length W < check-room L
+  work-refused : Allowed L → length W < check-room L
       → Checks ws L W O (record { answer = refused work-short 0; work = W; output = O })
-  output-refused :
-      Allowed L
-      → check-room L ≤ length W
-      → length O < L
+  output-refused : Allowed L → check-room L ≤ length W → length O < L
       → Checks ws L W O (record { answer = refused output-short 0; work = W; output = O })
-  unread : {r : Reason} {p : ℕ}
-      → Allowed L
-      → check-room L ≤ length W
-      → L ≤ length O
-      → read ws ≡ refused r p
+  unread : {r : Reason} {p : ℕ} → Allowed L → check-room L ≤ length W → L ≤ length O → read ws ≡ refused r p
       → Checks ws L W O (record { answer = refused r p; work = W; output = O })
-  untyped : {r : Reason} {p : ℕ} {t : Term}
-      → Allowed L
-      → check-room L ≤ length W
-      → L ≤ length O
-      → ws ≡ words t
-      → Readable t
-      → Fails L [] 0 t r p
+  untyped : {r : Reason} {p : ℕ} {t : Term} → Allowed L → check-room L ≤ length W → L ≤ length O
+      → Codes ws t → Fails L [] 0 t r p
       → Checks ws L W O (record { answer = refused r p; work = cleared (check-room L) W; output = O })
-  typed : {t τ : Term}
-      → Allowed L
-      → check-room L ≤ length W
-      → L ≤ length O
-      → ws ≡ words t
-      → Readable t
-      → [] ⊢⟨ L ⟩ t ⦂ τ
+  typed : {t τ : Term} → Allowed L → check-room L ≤ length W → L ≤ length O
+      → Codes ws t → [] ⊢⟨ L ⟩ t ⦂ τ
       → Checks ws L W O (record { answer = ok (size τ); work = cleared (check-room L) W; output = begun (words τ) O })
 
 abbrev pub Demand2-check : Type 0
@@ -63,9 +47,7 @@ Demand2-check = (ws : List ℕ) (L : ℕ) (W O : List ℕ) (c : Checked) → (ch
 
 -- Exactly one of "typed within L" and "fails" holds of a readable term.
 abbrev pub TypedOrFails : Type 0
-TypedOrFails =
-    (L : ℕ) (t : Term)
-    → Readable t
+TypedOrFails = (L : ℕ) (t : Term) → Readable t
     → (((τ : Term) × ([] ⊢⟨ L ⟩ t ⦂ τ)) ⊎ ((r : Reason) × (p : ℕ) × Fails L [] 0 t r p))
     × ((r : Reason) (p : ℕ) (τ : Term) → Fails L [] 0 t r p → [] ⊢⟨ L ⟩ t ⦂ τ → ⊥)
 
@@ -75,15 +57,11 @@ Untypable = (L : ℕ) (t τ : Term) (r : Reason) (p : ℕ) → Fails L [] 0 t r 
 
 -- Two limits that accept the same words answer the same type.
 abbrev pub SameType : Type 0
-SameType =
-    (ws : List ℕ) (L L′ : ℕ) (W W′ O O′ : List ℕ) (n n′ : ℕ)
-    → check ws L W O .answer ≡ ok n
-    → check ws L′ W′ O′ .answer ≡ ok n′
+SameType = (ws : List ℕ) (L L′ : ℕ) (W W′ O O′ : List ℕ) (n n′ : ℕ)
+    → check ws L W O .answer ≡ ok n → check ws L′ W′ O′ .answer ≡ ok n′
     → (n ≡ n′) × (take n (check ws L W O .output) ≡ take n′ (check ws L′ W′ O′ .output))
 
 -- "A check refuses by 1–16, a run by 2–9."
 abbrev pub CheckRefusals : Type 0
-CheckRefusals =
-    (ws : List ℕ) (L : ℕ) (W O : List ℕ) (r : Reason) (p : ℕ)
-    → check ws L W O .answer ≡ refused r p
-    → (1 ≤ number r) × (number r ≤ 16)
+CheckRefusals = (ws : List ℕ) (L : ℕ) (W O : List ℕ) (r : Reason) (p : ℕ)
+    → check ws L W O .answer ≡ refused r p → (1 ≤ number r) × (number r ≤ 16)

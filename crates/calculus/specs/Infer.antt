@@ -42,8 +42,8 @@ stepped p stuck = refused no-step p
 stepped p (next τ) = ok τ
 
 unfoldable pub infer : ℕ → Context → ℕ → Term → Answer Term
-infer L Γ p (var i) = measure L p (annotation Γ i)
 infer L Γ p star = measure L p star
+infer L Γ p (var i) = measure L p (annotation Γ i)
 infer L Γ p (app f u) = do
   τ ← infer L Γ (first-part p) f
   (a, b) ← product p τ

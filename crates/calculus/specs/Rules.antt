@@ -6,11 +6,11 @@ use Rattle.calculus.specs.Term.{Term, var, star, app, lam, pi, castup, c
 infix 30 _⟶_ _⊢_⦂_ _∋_⦂_
 -- A.2, one-step reduction.
 pub data _⟶_ : Term → Term → Type 0 where
-  s-beta : {a e u : Term} → app (lam a e) u ⟶ substitute 0 u e
-  s-castdownup : {a e : Term} → castdown (castup a e) ⟶ e
-  s-app : {f f′ u : Term} → f ⟶ f′ → app f u ⟶ app f′ u
+  s-beta : {τ e₁ e₂ : Term} → app (lam τ e₁) e₂ ⟶ substitute 0 e₂ e₁
+  s-castdownup : {τ e : Term} → castdown (castup τ e) ⟶ e
+  s-app : {e₁ e₁′ e₂ : Term} → e₁ ⟶ e₁′ → app e₁ e₂ ⟶ app e₁′ e₂
   s-castdown : {e e′ : Term} → e ⟶ e′ → castdown e ⟶ castdown e′
-  s-mu : {a e : Term} → mu a e ⟶ substitute 0 (mu a e) e
+  s-mu : {τ e : Term} → mu τ e ⟶ substitute 0 (mu τ e) e
 
 -- Document 01: "A term can step when the one-step rules give it a next state."
 abbrev pub CanStep : Term → Type 0
@@ -19,9 +19,9 @@ CanStep e = (e′ : Term) × (e ⟶ e′)
 -- A.1, values.
 pub data Value : Term → Type 0 where
   v-star : Value star
-  v-lam : {a e : Term} → Value (lam a e)
-  v-pi : {a b : Term} → Value (pi a b)
-  v-castup : {a e : Term} → Value (castup a e)
+  v-lam : {τ e : Term} → Value (lam τ e)
+  v-pi : {τ₁ τ₂ : Term} → Value (pi τ₁ τ₂)
+  v-castup : {τ e : Term} → Value (castup τ e)
 
 -- A.1, contexts: the annotations, innermost first, each as it stands outside its own binder.
 abbrev pub Context : Type 0

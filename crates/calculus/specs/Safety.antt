@@ -6,7 +6,7 @@ use mathlib.Core.Logic.{_↔_, _≢_, _⊎_}
 use lib.ListN.{length, take}
 use Rattle.calculus.specs.Term.{Term, star, lam, pi, castup, size}
 use Rattle.calculus.specs.Answer.{Answer, ok, refused, work-short, output-short}
-use Rattle.calculus.specs.Words.{words, Readable, longest}
+use Rattle.calculus.specs.Words.{words, Codes, longest}
 use Rattle.calculus.specs.Rules.{Context, _⟶_, CanStep, Value, _⊢_⦂_}
 use Rattle.calculus.specs.Run.{State, End, at-stuck, Ends}
 use Rattle.calculus.specs.Outcomes.{run-room, check, Ran, Stop, run}
@@ -26,44 +26,29 @@ pub record Safe (τ x : Term) : Type 0 where
 pub data Safely (t τ : Term) (grant : ℕ) (W S : List ℕ) : Answer Stop → Type 0 where
   work-refused : length W < run-room → Safely t τ grant W S (refused work-short 0)
   state-refused : run-room ≤ length W → length S < longest → Safely t τ grant W S (refused output-short 0)
-  ended : {E : End} {n : ℕ} {x : Term}
-      → run-room ≤ length W
-      → longest ≤ length S
-      → State t n x
-      → Ends grant n x E
-      → E ≢ at-stuck
+  ended : {E : End} {n : ℕ} {x : Term} → run-room ≤ length W → longest ≤ length S
+      → State t n x → Ends grant n x E → E ≢ at-stuck
       → ((k : ℕ) → k ≤ n → (y : Term) × Only (State t k) y × (size y ≤ longest) × Safe τ y)
       → Safely t τ grant W S (ok (record { end = E; steps = n }))
 
 -- Demand 3 of one run `r`: for every check that accepts the words, at any allowed limit.
 abbrev pub SafeRun : List ℕ → ℕ → ℕ → List ℕ → List ℕ → Ran → Type 0
-SafeRun ws budget allowance W S r =
-    (L : ℕ) (W₁ O₁ : List ℕ) (n : ℕ)
+SafeRun ws budget allowance W S r = (L : ℕ) (W₁ O₁ : List ℕ) (n : ℕ)
     → check ws L W₁ O₁ .answer ≡ ok n
-    → (t : Term)
-    × (τ : Term)
-    × Only (λ t′. (ws ≡ words t′) × Readable t′) t
-    × Only (λ τ′. words τ′ ≡ take n (check ws L W₁ O₁ .output)) τ
+    → (t : Term) × (τ : Term) × Only (Codes ws) t × Only (λ τ′. words τ′ ≡ take n (check ws L W₁ O₁ .output)) τ
     × Safely t τ (min budget allowance) W S (r .answer)
+
+-- `Is pi e`: the node of `e` is a product; likewise `Is lam e` and `Is castup e`.
+abbrev pub Is : (Term → Term → Term) → Term → Type 0
+Is c e = (a : Term) × (b : Term) × (e ≡ c a b)
 
 -- "Of the values that the rules give a type, exactly star and the products have type star; exactly the abstractions have a product
 -- as their type; exactly the up casts have a type that can step."
-abbrev pub IsPi : Term → Type 0
-IsPi e = (a : Term) × (b : Term) × (e ≡ pi a b)
-
-abbrev pub IsLam : Term → Type 0
-IsLam e = (a : Term) × (b : Term) × (e ≡ lam a b)
-
-abbrev pub IsCastup : Term → Type 0
-IsCastup e = (a : Term) × (b : Term) × (e ≡ castup a b)
-
 pub record Canonical (v τ : Term) : Type 0 where
-  pub stars : (τ ≡ star) ↔ ((v ≡ star) ⊎ IsPi v)
-  pub products : IsPi τ ↔ IsLam v
-  pub stepping : CanStep τ ↔ IsCastup v
+  pub stars : (τ ≡ star) ↔ ((v ≡ star) ⊎ Is pi v)
+  pub products : Is pi τ ↔ Is lam v
+  pub stepping : CanStep τ ↔ Is castup v
 
 abbrev pub Demand3 : Type 0
-Demand3 =
-    ((ws : List ℕ) (budget allowance : ℕ) (W S : List ℕ)
-    → SafeRun ws budget allowance W S (run ws budget allowance W S))
+Demand3 = ((ws : List ℕ) (budget allowance : ℕ) (W S : List ℕ) → SafeRun ws budget allowance W S (run ws budget allowance W S))
     × ((Γ : Context) (v τ : Term) → Value v → Γ ⊢ v ⦂ τ → Canonical v τ)

@@ -7,7 +7,7 @@ use mathlib.Core.Logic.{_≢_}
 use lib.ListN.{length}
 use Rattle.calculus.specs.Term.{Term, size}
 use Rattle.calculus.specs.Answer.{ok, refused, Reason, not-star, not-product, wrong-argument, no-step, wrong-cast, wrong-recursion, over-limit}
-use Rattle.calculus.specs.Words.{words, Readable, longest}
+use Rattle.calculus.specs.Words.{words, Codes, longest}
 use Rattle.calculus.specs.Rules.{_⟶_, _⊢_⦂_}
 use Rattle.calculus.specs.Limit.{_⊢⟨_⟩_⦂_}
 use Rattle.calculus.specs.Failing.{Fails}
@@ -24,56 +24,24 @@ pub data Row : Type 0 where
   spins : List ℕ → Row
 
 unfoldable pub Claim : Row → Type 0
-Claim (types ws L out) =
-    (t : Term)
-    × (τ : Term)
-    × (ws ≡ words t)
-    × Readable t
-    × (out ≡ words τ)
-    × ([] ⊢⟨ L ⟩ t ⦂ τ)
-    × ((W O : List ℕ)
-    → check-room L ≤ length W
-    → L ≤ length O
+Claim (types ws L out) = (t : Term) × (τ : Term) × Codes ws t × (out ≡ words τ) × ([] ⊢⟨ L ⟩ t ⦂ τ)
+    × ((W O : List ℕ) → check-room L ≤ length W → L ≤ length O
     → check ws L W O ≡ record { answer = ok (length out); work = cleared (check-room L) W; output = begun out O })
-Claim (refuses ws L r p) =
-    (t : Term)
-    × (ws ≡ words t)
-    × Readable t
-    × Fails L [] 0 t r p
+Claim (refuses ws L r p) = (t : Term) × Codes ws t × Fails L [] 0 t r p
     × (r ≢ over-limit → (τ : Term) → [] ⊢ t ⦂ τ → ⊥)
-    × ((W O : List ℕ)
-    → check-room L ≤ length W
-    → L ≤ length O
+    × ((W O : List ℕ) → check-room L ≤ length W → L ≤ length O
     → check ws L W O ≡ record { answer = refused r p; work = cleared (check-room L) W; output = O })
-Claim (ends ws budget E n out) =
-    (t : Term)
-    × (x : Term)
-    × (ws ≡ words t)
-    × Readable t
-    × (out ≡ words x)
-    × State t n x
-    × Ends budget n x E
-    × ((allowance : ℕ) (W S : List ℕ)
-    → budget ≤ allowance
-    → run-room ≤ length W
-    → longest ≤ length S
-    → run ws budget allowance W S
-    ≡ record {
+Claim (ends ws budget E n out) = (t : Term) × (x : Term) × Codes ws t × (out ≡ words x) × State t n x × Ends budget n x E
+    × ((allowance : ℕ) (W S : List ℕ) → budget ≤ allowance → run-room ≤ length W → longest ≤ length S
+    → run ws budget allowance W S ≡ record {
       answer = ok (record { end = E; steps = n });
       allowance = allowance - n;
       work = cleared run-room W;
       state = begun out S;
     })
-Claim (spins ws) =
-    (t : Term)
-    × (ws ≡ words t)
-    × Readable t
-    × (t ⟶ t)
-    × ((budget allowance : ℕ) (W S : List ℕ)
-    → run-room ≤ length W
-    → longest ≤ length S
-    → run ws budget allowance W S
-    ≡ record {
+Claim (spins ws) = (t : Term) × Codes ws t × (t ⟶ t)
+    × ((budget allowance : ℕ) (W S : List ℕ) → run-room ≤ length W → longest ≤ length S
+    → run ws budget allowance W S ≡ record {
       answer = ok (record { end = spent; steps = min budget allowance });
       allowance = allowance - min budget allowance;
       work = cleared run-room W;

@@ -1,6 +1,7 @@
 -- The words of a term (document 01, Words), and which terms can be read.
 use Prim.Native.Nat.{ℕ, suc, _+_, _≤_, _<_, max}
 use mathlib.Core.List.{List, [], _∷_}
+use mathlib.Core.Path.{_≡_}
 use Rattle.calculus.specs.Term.{Term, var, star, app, lam, pi, castup, castdown, mu, size}
 
 -- The words of a term, before the words `k` that follow it: "a list of 16-bit words in prefix order", by document 01's table.
@@ -50,3 +51,7 @@ pub record Readable (t : Term) : Type 0 where
   pub closed : Scoped 0 t
   pub short : size t ≤ longest
   pub shallow : levels t ≤ deepest
+
+-- The list `ws` is the readable term `t`.
+abbrev pub Codes : List ℕ → Term → Type 0
+Codes ws t = (ws ≡ words t) × Readable t

@@ -77,7 +77,7 @@ module _ (ws : List ℕ) (budget allowance : ℕ) (W S : List ℕ) where
         let state = begun (words (q .state)) S in
         let same = cleared-same run-room longest after W (lit≤ tt) (p .behind) in
         meets
-        (run-answer ws budget allowance W S (ended w s h r (k .last) (k .bounded) (k .within) (k .ends))
+        (run-answer ws budget allowance W S (ended w s (h, r) (k .last) (k .bounded) (k .within) (k .ends))
         ∙ ap (λ E. left E (q .steps) allowance W state) (sym (p .end))
         ∙ ap (λ n. left (end-of (c .end)) n allowance W state) (sym (p .steps))
         ∙ ap (λ work. record { answer = ok (record { end = end-of (c .end); steps = c .steps }); allowance = allowance - c .steps; work = work; state = state })

@@ -61,8 +61,8 @@ substitute-scoped n s t h k = subst (Scoped n) (sym (substitute-is-sub s t)) (su
 
 pub step-scoped : (n : ℕ) {e x : Term} → e ⟶ x → Scoped n e → Scoped n x
 unfolding Scoped
-step-scoped n (s-beta {e} {u}) s = substitute-scoped n u e (s .1) (s .0 .1)
+step-scoped n (s-beta {e₁ = e} {e₂ = u}) s = substitute-scoped n u e (s .1) (s .0 .1)
 step-scoped n s-castdownup s = s .1
 step-scoped n (s-app r) s = (step-scoped n r (s .0), s .1)
 step-scoped n (s-castdown r) s = step-scoped n r s
-step-scoped n (s-mu {a} {e}) s = substitute-scoped n (mu a e) e s (s .1)
+step-scoped n (s-mu {τ = a} {e}) s = substitute-scoped n (mu a e) e s (s .1)

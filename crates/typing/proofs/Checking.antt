@@ -123,7 +123,7 @@ module _ {ws : List ℕ} {L : ℕ} {W O : List ℕ} {r : Inferred} {after : List
       let x = subst (λ n. infer L [] n term ≡ refused (reason-of (f .reason)) (f .place)) outermost (turned infers) in
       let d = refused-sound env-empty (readable .closed) x in
       ap (λ w. checked-of (checked.Refused f) w O) (e ∙ cleared-all)
-      ∙ sym (check-answer ws L W O (untyped allowed room out coded readable d))
+      ∙ sym (check-answer ws L W O (untyped allowed room out (coded, readable) d))
     where
       turned : {x : Answer Term}
           → Infers x term places 0 (take (check-room L) W) 0 r after places′
@@ -157,4 +157,4 @@ module _ {ws : List ℕ} {L : ℕ} {W O : List ℕ} {r : Inferred} {after : List
         ap (λ k. checked-of (checked.Typed k) work′ output′) type-long
         ∙ ap (λ l. checked-of (checked.Typed (size τ)) l output′) (e ∙ cleared-all)
         ∙ ap (checked-of (checked.Typed (size τ)) (cleared (check-room L) W)) (stored ∙ begins)
-        ∙ sym (check-answer ws L W O (typed allowed room out coded readable d))
+        ∙ sym (check-answer ws L W O (typed allowed room out (coded, readable) d))
