@@ -8,21 +8,6 @@ use Rattle.feguavy.proofs.Answered.{ended-numbers, unrun-numbers, unrun
 use Rattle.feguavy.proofs.feguavy_run.Statement.{statement}
 use Rattle.feguavy.proofs.feguavy_run.Tie as tie
 
-run-requires : tie.Need-run-requires
-run-requires c κs = search needs
-
-enum-known-answer : tie.Need-enum-known-answer
-enum-known-answer c = search needs
-
-number-of-end-requires : tie.Need-number-of-end-requires
-number-of-end-requires c κs = search needs
-
-enum-known-answer-2 : tie.Need-enum-known-answer-2
-enum-known-answer-2 c = search needs
-
-number-requires : tie.Need-number-requires
-number-requires c κs = search needs
-
 cast-t21 : tie.Need-cast-t21
 cast-t21 c =
     let b = c .before .before .before .before .before .before .before .before .before in
@@ -30,23 +15,11 @@ cast-t21 c =
     let h = unrun-place (now (a .term)) (a .budget) (a .allowance) (now (a .work)) (now (a .state)) (b .run .result) (b .run .ensures .0) _ (c .before .before .before .answer2 .given .1) in
     omega arith
 
-same-length : tie.Need-same-length
-same-length c = search needs
-
-same-length-2 : tie.Need-same-length-2
-same-length-2 c = search needs
-
 returns : tie.Need-returns
 returns c =
     let k = c .before .before .before .before .before .before .before .before .run in
     let numbered = ended-numbers (k .result) (k .ensures .0) _ _ _ (c .before .before .answer .given .1) (c .number-of-end .ensures) in
     (numbered, (_, numbered, demand3 .0 _ _ _ _ _))
-
-same-length-3 : tie.Need-same-length-3
-same-length-3 c = search needs
-
-same-length-4 : tie.Need-same-length-4
-same-length-4 c = search needs
 
 returns-2 : tie.Need-returns-2
 returns-2 c =
@@ -58,15 +31,5 @@ pub feguavy-run-spec : {M : Type 1} → statement M
 feguavy-run-spec =
     tie.close
     (tie.spec
-    run-requires
-    enum-known-answer
-    number-of-end-requires
-    enum-known-answer-2
-    number-requires
-    cast-t21
-    same-length
-    same-length-2
-    returns
-    same-length-3
-    same-length-4
-    returns-2)
+    (λ c κs. search needs) (λ c. search needs) (λ c κs. search needs) (λ c. search needs) (λ c κs. search needs) cast-t21
+    (λ c. search needs) (λ c. search needs) returns (λ c. search needs) (λ c. search needs) returns-2)
