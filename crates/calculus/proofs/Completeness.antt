@@ -5,7 +5,7 @@ use mathlib.Core.Path.{_≡_, refl, sym, _∙_, subst}
 use Rattle.calculus.specs.Term.{Term, var, star, app, lam, pi, castup, castdown, mu, substitute, raise}
 use Rattle.calculus.specs.Answer.{Answer, ok, refused, Reason, _>>=_, _>>_, require}
 use Rattle.calculus.specs.Rules.{Context, _⊢_⦂_, t-ax, t-var, t-app, t-lam, t-pi, t-castup, t-castdown, t-mu}
-use Rattle.calculus.specs.Limit.{Part, its-type, stepped, _⊢⟨_⟩_⦂_}
+use Rattle.calculus.specs.Limit.{Part, its-type, stepped-annotation, _⊢⟨_⟩_⦂_}
 use Rattle.calculus.specs.Failing.{Fails, first-part, second-part, star-over, var-over, app-function, app-not-product, app-argument, app-mismatch, app-over, lam-annotation, lam-not-star, lam-body, lam-over, pi-domain, pi-domain-not-star, pi-codomain, pi-codomain-not-star, pi-over, castup-annotation, castup-not-star, castup-body, castup-rests, castup-step-over, castup-mismatch, castup-over, castdown-body, castdown-rests, castdown-over, mu-annotation, mu-not-star, mu-body, mu-mismatch, mu-over}
 use Rattle.calculus.specs.Infer.{infer, product, measure}
 use Rattle.calculus.proofs.Within.{Fits, part-fits, type-fits}
@@ -30,7 +30,7 @@ answers p (pi a b) (t-pi da db) h =
     rw (answers (first-part p) a da (part-fits Part.domain h), equal star, answers (second-part p a) b db (part-fits Part.codomain h), equal star)
     (own p (t-pi da db) h)
 answers p (castup a e) (t-castup {τ₂ = a′} de da s) h =
-    rw (answers (first-part p) a da (part-fits Part.castup-annotation h), equal star, answers (second-part p a) e de (part-fits Part.castup-body h), steps p s, fitting p a′ (h a′ (stepped s)), equal a′)
+    rw (answers (first-part p) a da (part-fits Part.castup-annotation h), equal star, answers (second-part p a) e de (part-fits Part.castup-body h), steps p s, fitting p a′ (h a′ (stepped-annotation s)), equal a′)
     (own p (t-castup de da s) h)
 answers p (castdown e) (t-castdown de ds s) h =
     rw (answers (first-part p) e de (part-fits Part.castdown-body h), steps p s) (own p (t-castdown de ds s) h)

@@ -6,7 +6,7 @@ use mathlib.Core.List.{_∷_}
 use mathlib.Core.Path.{subst}
 use Rattle.calculus.specs.Term.{Term, var, star, app, lam, pi, castup, castdown, mu, size, raise, substitute}
 use Rattle.calculus.specs.Rules.{Context, WellFormed, _⟶_, _∋_⦂_, _⊢_⦂_, t-ax, t-var, t-app, t-lam, t-pi, t-castup, t-castdown, t-mu}
-use Rattle.calculus.specs.Limit.{Part, function, argument, lam-annotation, lam-body, domain, codomain, castup-annotation, castup-body, castdown-body, mu-annotation, mu-body, Measured, its-type, stepped, at-part, _⊢⟨_⟩_⦂_}
+use Rattle.calculus.specs.Limit.{Part, function, argument, lam-annotation, lam-body, domain, codomain, castup-annotation, castup-body, castdown-body, mu-annotation, mu-body, Measured, its-type, stepped-annotation, at-part, _⊢⟨_⟩_⦂_}
 use Rattle.calculus.proofs.Reduction.{determinism}
 use Rattle.calculus.proofs.Types.{correctness, uniqueness}
 use Rattle.calculus.proofs.Safety.{preservation}
@@ -91,7 +91,7 @@ castup-within {L} {Γ} {a} {a′} {e} ha he s h = record { typed = typing; fits 
 
     fit : Fits L Γ (castup a e)
     fit σ (its-type d) = its-type-fits typing h d
-    fit σ (stepped s′) = subst (λ x. size x ≤ L) (determinism s s′) (type-fits he)
+    fit σ (stepped-annotation s′) = subst (λ x. size x ≤ L) (determinism s s′) (type-fits he)
     fit σ (at-part castup-annotation m) = ha .fits σ m
     fit σ (at-part castup-body m) = he .fits σ m
 

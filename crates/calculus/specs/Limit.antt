@@ -22,7 +22,7 @@ pub data Part : Context → Term → Context → Term → Type 0 where
 -- "Measured are the type of every subterm, when found, and every stepped type." The stepped type of a down cast is its type.
 pub data Measured : Context → Term → Term → Type 0 where
   its-type : {Γ : Context} {e σ : Term} → Γ ⊢ e ⦂ σ → Measured Γ e σ
-  stepped : {Γ : Context} {a e σ : Term} → a ⟶ σ → Measured Γ (castup a e) σ
+  stepped-annotation : {Γ : Context} {a e σ : Term} → a ⟶ σ → Measured Γ (castup a e) σ
   at-part : {Γ Γ′ : Context} {e e′ σ : Term} → Part Γ e Γ′ e′ → Measured Γ′ e′ σ → Measured Γ e σ
 
 -- Γ ⊢L e : τ. The rules give `e` the type τ, and every type measured on the way fits the limit.

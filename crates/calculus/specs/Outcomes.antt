@@ -1,5 +1,5 @@
 -- The outcomes of the calls `check`, `run` and `part` (document 01, Calls) for any lists of words and any numbers: the answer and
--- every word of every lent slice.
+-- every word of every lent slice. `ws` is the caller's list, W the working slice, O the output slice, S the state slice, L the limit.
 use Prim.Native.Nat.{ℕ, zero, suc, _+_, _-_, _*_, min}
 use mathlib.Core.Bool.{cond, _&&_}
 use mathlib.Core.List.{List, [], _∷_, _++_}
@@ -38,22 +38,22 @@ pub record Checked : Type 0 where
 
 -- The refusals in document 01's order, and otherwise the type.
 unfoldable pub verdict : List ℕ → ℕ → List ℕ → List ℕ → Answer Term
-verdict term L work output = do
+verdict ws L W O = do
   require limit-not-allowed 0 (leb 1 L && leb L largest-limit)
-  require work-short 0 (leb (check-room L) (length work))
-  require output-short 0 (leb L (length output))
-  t ← read term
+  require work-short 0 (leb (check-room L) (length W))
+  require output-short 0 (leb L (length O))
+  t ← read ws
   infer L [] 0 t
 
--- "Refusals 1–9 leave the working slice too. After any other answer its first 512 × L words [...] are 0."
+-- "Accepted: the first n output words are the type, the rest unchanged." "Refusals 1–9 leave the working slice too. After any other
+-- answer its first 512 × L words [...] are 0."
 unfoldable pub checked : ℕ → List ℕ → List ℕ → Answer Term → Checked
-checked L work output (ok τ) =
-    record { answer = ok (size τ); work = cleared (check-room L) work; output = begun (words τ) output }
-checked L work output (refused r p) =
-    record { answer = refused r p; work = cond (leb (number r) 9) work (cleared (check-room L) work); output = output }
+checked L W O (ok τ) = record { answer = ok (size τ); work = cleared (check-room L) W; output = begun (words τ) O }
+checked L W O (refused r p) =
+    record { answer = refused r p; work = cond (leb (number r) 9) W (cleared (check-room L) W); output = O }
 
 unfoldable pub check : List ℕ → ℕ → List ℕ → List ℕ → Checked
-check term L work output = checked L work output (verdict term L work output)
+check ws L W O = checked L W O (verdict ws L W O)
 
 -- A run: its end and steps, or the refusal; the allowance left on the desk; and the two lent slices.
 pub record Stop : Type 0 where
@@ -66,28 +66,28 @@ pub record Ran : Type 0 where
   pub work : List ℕ
   pub state : List ℕ
 
--- "The grant is the smaller of budget and allowance."
+-- The refusals in document 01's order, and otherwise the run within the grant.
 unfoldable pub course : List ℕ → ℕ → List ℕ → List ℕ → Answer Ended
-course term grant work state = do
-  require work-short 0 (leb run-room (length work))
-  require output-short 0 (leb longest (length state))
-  t ← read term
+course ws grant W S = do
+  require work-short 0 (leb run-room (length W))
+  require output-short 0 (leb longest (length S))
+  t ← read ws
   ok (run-from grant t)
 
 -- "The desk with the allowance lowered by exactly those steps. [...] A refused call leaves output, state and desk unchanged."
 unfoldable pub ran : ℕ → List ℕ → List ℕ → Answer Ended → Ran
-ran allowance work state (ok e) =
+ran allowance W S (ok e) =
     record {
       answer = ok (record { end = e .end; steps = e .steps });
       allowance = allowance - e .steps;
-      work = cleared run-room work;
-      state = begun (words (e .state)) state;
+      work = cleared run-room W;
+      state = begun (words (e .state)) S;
     }
-ran allowance work state (refused r p) =
-    record { answer = refused r p; allowance = allowance; work = work; state = state }
+ran allowance W S (refused r p) = record { answer = refused r p; allowance = allowance; work = W; state = S }
 
+-- "The grant is the smaller of budget and allowance."
 unfoldable pub run : List ℕ → ℕ → ℕ → List ℕ → List ℕ → Ran
-run term budget allowance work state = ran allowance work state (course term (min budget allowance) work state)
+run ws budget allowance W S = ran allowance W S (course ws (min budget allowance) W S)
 
 -- A part lookup: where the part stands in the caller's own words. "For a list that is no closed term, and for a part that isn't
 -- there, it hands back an empty part", here at place 0.
@@ -120,7 +120,7 @@ found-in k (ok t) = nth-part (parts t) k 1
 found-in k (refused r p) = absent
 
 unfoldable pub found : List ℕ → ℕ → Found
-found term k = found-in k (read term)
+found ws k = found-in k (read ws)
 
 unfoldable pub part : List ℕ → ℕ → List ℕ
-part term k = take (found term k .extent) (drop (found term k .start) term)
+part ws k = take (found ws k .extent) (drop (found ws k .start) ws)

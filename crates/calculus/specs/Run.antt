@@ -24,7 +24,8 @@ end-number spent = 2
 end-number at-stuck = 3
 end-number too-long = 4
 
--- `Ends g n x E`: after `n` of the `g` steps granted, at the state `x`, the run's end is E: the first that holds there.
+-- `Ends g n x E`: after `n` of the `g` steps granted, at the state `x`, the run's end is E. "Ends, tested in this order before each
+-- step: 2 spent, steps equal the grant; 1 value; 3 stuck; 4 the next state is over 1,024 words."
 pub data Ends (g n : ℕ) (x : Term) : End → Type 0 where
   ends-spent : n ≡ g → Ends g n x spent
   ends-value : n < g → Value x → Ends g n x at-value
@@ -42,8 +43,7 @@ stop E x = record { end = E; steps = 0; state = x }
 unfoldable pub one-more : Ended → Ended
 one-more r = record { end = r .end; steps = suc (r .steps); state = r .state }
 
--- "Ends, tested in this order before each step: 2 spent, steps equal the grant; 1 value; 3 stuck; 4 the next state is over 1,024
--- words."
+-- The run on from the state `x`, by its next state; `go` is the run within one step less.
 unfoldable pub advance : (Term → Ended) → Term → Next → Ended
 advance go x value = stop at-value x
 advance go x stuck = stop at-stuck x
