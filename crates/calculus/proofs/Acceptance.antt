@@ -13,7 +13,7 @@ use Rattle.calculus.specs.Rules.{_⊢_⦂_}
 use Rattle.calculus.specs.Limit.{_⊢⟨_⟩_⦂_}
 use Rattle.calculus.specs.Outcomes.{begun, Checked, check}
 use Rattle.calculus.specs.Checks.{Checks, limit-refused, work-refused, output-refused, unread, untyped, typed, SameType}
-use Rattle.calculus.proofs.Coding.{words-length, words-injective}
+use Rattle.calculus.proofs.Coding.{words-length, codes-one}
 use Rattle.calculus.proofs.Types.{uniqueness}
 use Rattle.calculus.proofs.CheckDemand.{check-checks}
 
@@ -59,11 +59,8 @@ agree : {ws : List ℕ} {L L′ n n′ : ℕ} {O O′ : List ℕ} {t t′ τ τ�
     → (n ≡ n′) × (take n O ≡ take n′ O′)
 agree {t} {t′} {τ} {τ′} a b = (a .extent ∙ ap size same ∙ sym (b .extent), a .front ∙ ap words same ∙ sym (b .front))
   where
-    one : t′ ≡ t
-    one = words-injective t′ t (sym (b .coded .0) ∙ a .coded .0)
-
     same : τ ≡ τ′
-    same = uniqueness (a .typing .typed) (subst (λ x. [] ⊢ x ⦂ τ′) one (b .typing .typed))
+    same = uniqueness (a .typing .typed) (subst (λ x. [] ⊢ x ⦂ τ′) (codes-one (b .coded) (a .coded)) (b .typing .typed))
 
 pub same-type : SameType
 same-type ws L L′ W W′ O O′ n n′ e e′ = agree (accepted ws L W O n e .2) (accepted ws L′ W′ O′ n′ e′ .2)

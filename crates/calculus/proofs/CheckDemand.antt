@@ -1,17 +1,18 @@
 -- Demand 2 for checks. Whatever `Checks` says is what `check` answers, by computing through the tests in their order; and `Checks`
 -- says something of every call, since each of its tests is decided. So what `check` answers is what `Checks` says.
-use Prim.Native.Nat.{ℕ, _≤_}
+use Prim.Native.Nat.{ℕ, _≤_, zero-le}
 use mathlib.Core.Bool.{false, _&&_}
 use mathlib.Core.List.{List, []}
 use mathlib.Core.Logic.{_⊎_, inl, inr, Dec·and}
 use mathlib.Core.Path.{_≡_, refl, sym, subst}
 use native.Mathlib.Decide.{decLe}
 use native.Mathlib.Omega.{arith}
+use native.Mathlib.Nat.{le-trans}
 use lib.Dec.{leb, lit≤}
 use lib.ListN.{length}
 use Rattle.calculus.specs.Term.{Term}
 use Rattle.calculus.specs.Answer.{Reason, Answer, ok, refused, _>>=_, _>>_, require, number}
-use Rattle.calculus.specs.Words.{Codes}
+use Rattle.calculus.specs.Words.{Codes, longest}
 use Rattle.calculus.specs.Reading.{read}
 use Rattle.calculus.specs.Rules.{env-empty}
 use Rattle.calculus.specs.Limit.{_⊢⟨_⟩_⦂_}
@@ -20,11 +21,12 @@ use Rattle.calculus.specs.Infer.{infer}
 use Rattle.calculus.specs.Outcomes.{largest-limit, check-room, Checked, verdict, checked, check}
 use Rattle.calculus.specs.Checks.{Coding, PrefixFree, Allowed, Checks, limit-refused, work-refused, output-refused, unread, untyped, typed, Demand2-check, TypedOrFails, Untypable, CheckRefusals}
 use Rattle.calculus.proofs.Comparisons.{le-leb, gt-leb}
-use Rattle.calculus.proofs.Says.{RefusedBy}
+use Rattle.calculus.proofs.Says.{By, Says, says-ok, says-refused, of-refused}
 use Rattle.calculus.proofs.Coding.{prefix-free}
-use Rattle.calculus.proofs.ReadBack.{read-sound, read-exactly, read-reason}
+use Rattle.calculus.proofs.ReadBack.{read-sound, read-exactly, read-refusal}
+use Rattle.calculus.proofs.Within.{type-fits}
 use Rattle.calculus.proofs.Completeness.{infer-complete, refused-complete, not-both}
-use Rattle.calculus.proofs.Refusals.{no-type, fails-reason}
+use Rattle.calculus.proofs.Refusals.{no-type, fails-refusal}
 use Rattle.calculus.proofs.Inference.{one-of-two}
 
 pub coding : Coding
@@ -53,10 +55,10 @@ module _ (ws : List ℕ) (L : ℕ) (W O : List ℕ) where
   check-answer (work-refused (h, k) w) = rw (le-leb 1 L h, le-leb L largest-limit k, gt-leb (check-room L) (length W) w) refl
   check-answer (output-refused (h, k) w o) =
       rw (le-leb 1 L h, le-leb L largest-limit k, le-leb (check-room L) (length W) w, gt-leb L (length O) o) refl
-  check-answer (unread {r} {p} a w o e) = rw (admitted a w o, e, le-leb (number r) 9 (read-reason ws r p e .1)) refl
+  check-answer (unread {r} {p} a w o e) = rw (admitted a w o, e, le-leb (number r) 9 (read-refusal ws r p e .1)) refl
   check-answer (untyped {r} {p} {t} a w o c f) =
       rw
-      (admitted a w o, read-exactly ws t .1 c, refused-complete f, gt-leb (number r) 9 (fails-reason f .0))
+      (admitted a w o, read-exactly ws t .1 c, refused-complete f, gt-leb (number r) 9 (fails-refusal f .0))
       refl
   check-answer (typed {t} a w o c d) = rw (admitted a w o, read-exactly ws t .1 c, infer-complete 0 d) refl
 
@@ -107,15 +109,22 @@ typed-or-fails L t c = (one-of-two L 0 t env-empty (c .closed), λ r p τ f d. n
 pub untypable : Untypable
 untypable L t τ r p f n d = no-type f n d
 
--- The reasons of each case have numbers 1–16.
-refused-by : {ws : List ℕ} {L : ℕ} {W O : List ℕ} {c : Checked} → Checks ws L W O c → RefusedBy 1 16 (c .answer)
+-- How far the numbers of an answer reach: a type's length, and the reason and the place of a refusal.
+numbers : {ws : List ℕ} {L : ℕ} {W O : List ℕ} {c : Checked}
+    → Checks ws L W O c
+    → Says (λ n. n ≤ largest-limit) (By 1 16 longest) (c .answer)
 unfolding number
-refused-by (limit-refused n) = (lit≤ tt, lit≤ tt)
-refused-by (work-refused a w) = (lit≤ tt, lit≤ tt)
-refused-by (output-refused a w o) = (lit≤ tt, lit≤ tt)
-refused-by {ws} (unread {r} {p} a w o e) = let (l, u) = read-reason ws r p e in omega arith
-refused-by (untyped a w o c f) = let (l, u) = fails-reason f in omega arith
-refused-by (typed a w o c d) = tt
+numbers (limit-refused n) = says-refused (lit≤ tt, lit≤ tt, zero-le)
+numbers (work-refused a w) = says-refused (lit≤ tt, lit≤ tt, zero-le)
+numbers (output-refused a w o) = says-refused (lit≤ tt, lit≤ tt, zero-le)
+numbers {ws} (unread {r} {p} a w o e) = let (l, u, q) = read-refusal ws r p e in says-refused {r = r} (omega arith, omega arith, q)
+numbers (untyped {r} {p} a w o c f) =
+    let (l, u, q) = fails-refusal f in
+    says-refused {r = r} {p = p} (omega arith, u, omega (arith, c .1 .short))
+numbers (typed a w o c d) = says-ok (le-trans (type-fits d) (a .1))
+
+pub check-numbers : (ws : List ℕ) (L : ℕ) (W O : List ℕ) → Says (λ n. n ≤ largest-limit) (By 1 16 longest) (check ws L W O .answer)
+check-numbers ws L W O = numbers (check-checks ws L W O)
 
 pub check-refusals : CheckRefusals
-check-refusals ws L W O r p e = subst (RefusedBy 1 16) e (refused-by (check-checks ws L W O))
+check-refusals ws L W O r p e = let (l, u, q) = of-refused (rw e at (check-numbers ws L W O)) in (l, u)

@@ -9,7 +9,7 @@ use native.Mathlib.Omega.{arith}
 use lib.Dec.{ltb}
 use lib.ListN.{length}
 use Rattle.calculus.specs.Term.{Term, var, star, app, lam, pi, castup, castdown, mu, size}
-use Rattle.calculus.specs.Words.{emit, words}
+use Rattle.calculus.specs.Words.{emit, words, Codes}
 use Rattle.calculus.specs.Reading.{Meaning, a-variable, meaning, node, node₁, node₂}
 use Rattle.calculus.proofs.Comparisons.{gt-leb}
 
@@ -77,7 +77,7 @@ build-emit (castup a e) k = ap (node₂ castup) (build-emit a (emit e k) ∙ ap 
 build-emit (castdown e) k = ap (node₁ castdown) (build-emit e k)
 build-emit (mu a e) k = ap (node₂ mu) (build-emit a (emit e k) ∙ ap (λ ts. a ∷ ts) (build-emit e k))
 
-pub emit-prefix-free : (s t : Term) {j k : List ℕ} → emit s j ≡ emit t k → (s ≡ t) × (j ≡ k)
+emit-prefix-free : (s t : Term) {j k : List ℕ} → emit s j ≡ emit t k → (s ≡ t) × (j ≡ k)
 emit-prefix-free s t {j} {k} h = (same, append-cancel-left (words t) j k rest)
   where
     same : s ≡ t
@@ -92,3 +92,6 @@ prefix-free s t j k h = emit-prefix-free s t (emit-append s j ∙ h ∙ sym (emi
 pub words-injective : (s t : Term) → words s ≡ words t → s ≡ t
 unfolding words
 words-injective s t h = emit-prefix-free s t h .0
+
+pub codes-one : {ws : List ℕ} {s t : Term} → Codes ws s → Codes ws t → s ≡ t
+codes-one {s} {t} h k = words-injective s t (sym (h .0) ∙ k .0)

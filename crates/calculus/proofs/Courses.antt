@@ -10,7 +10,7 @@ use Rattle.calculus.specs.Term.{Term, size}
 use Rattle.calculus.specs.Words.{longest}
 use Rattle.calculus.specs.Rules.{_⟶_}
 use Rattle.calculus.specs.Step.{Next, next}
-use Rattle.calculus.specs.Run.{State, state-zero, state-suc, End, Ends, ends-spent, ends-value, ends-stuck, ends-long, Ended, stop, one-more, advance, run-from}
+use Rattle.calculus.specs.Run.{State, state-zero, state-suc, End, Ends, ends-spent, ends-value, ends-stuck, ends-long, Ended, done, one-more, advance, run-from}
 use Rattle.calculus.proofs.Comparisons.{le-leb, gt-leb}
 use Rattle.calculus.proofs.Reduction.{determinism}
 use Rattle.calculus.proofs.Stepping.{Finds, finds-value, finds-stuck, finds-next, step-finds, step-next, value-step, stuck-step}
@@ -81,7 +81,7 @@ advance-course : {g : ℕ} {t : Term} {m : Next} (go : Term → Ended)
     → ((y : Term) → size y ≤ longest → Answered g y (go y))
     → Finds t m
     → Answered (suc g) t (advance go t m)
-unfolding advance stop one-more
+unfolding advance done one-more
 advance-course go h all (finds-value v) = course-here h (ends-value (omega arith) v)
 advance-course go h all (finds-stuck v s) = course-here h (ends-stuck (omega arith) v s)
 advance-course {g} {t} go h all (finds-next {x} s) = on (decLe (size x) longest)
@@ -91,12 +91,12 @@ advance-course {g} {t} go h all (finds-next {x} s) = on (decLe (size x) longest)
     on (no l) = rw (gt-leb (size x) longest (omega arith)) (course-here h (ends-long (omega arith) s (omega arith)))
 
 pub run-course : (g : ℕ) (t : Term) → size t ≤ longest → Answered g t (run-from g t)
-unfolding run-from stop
+unfolding run-from done
 run-course zero t h = course-here h (ends-spent refl)
 run-course (suc g) t h = advance-course (run-from g) h (run-course g) (step-finds t)
 
 -- A run that ends where it begins is the run's answer,
-answer-here : (g : ℕ) {t : Term} {E : End} → Ends g 0 t E → run-from g t ≡ stop E t
+answer-here : (g : ℕ) {t : Term} {E : End} → Ends g 0 t E → run-from g t ≡ done E t
 unfolding run-from advance
 answer-here zero (ends-spent e) = refl
 answer-here zero (ends-value h v) = absurd (omega arith)
@@ -137,7 +137,7 @@ unfolding run-from advance
 answer-after g {t′} s l = rw (step-next s, le-leb (size t′) longest l) refl
 
 pub course-answer : (g : ℕ) {t : Term} {E : End} (n : ℕ) {x : Term} → Course g t E n x → run-from g t ≡ record { end = E; steps = n; state = x }
-unfolding stop one-more
+unfolding done one-more
 course-answer g {t} {E} zero c = on (c .last) (c .ends)
   where
     on : {x : Term} → State t 0 x → Ends g 0 x E → run-from g t ≡ record { end = E; steps = 0; state = x }

@@ -1,6 +1,7 @@
 -- Inference gives the rules' answer and no other. A term in scope of a well-formed context is typed within the limit or fails at a
 -- test: the parts are decided by recursion, and the tests in their order. As inference answers whatever holds, its answer holds.
 use Prim.Native.Nat.{ℕ, zero, suc, _≤_, _<_}
+use mathlib.Core.Bool.{true≢false}
 use mathlib.Core.List.{[], _∷_}
 use mathlib.Core.Logic.{_≢_, _⊎_, inl, inr}
 use mathlib.Core.Path.{_≡_, sym, _∙_, subst, subst₂}
@@ -24,19 +25,6 @@ use Rattle.calculus.proofs.Completeness.{infer-complete, refused-comple
 -- What the rules say of a term: a type within the limit, or where typing first fails.
 abbrev Verdict : ℕ → Context → ℕ → Term → Type 0
 Verdict L Γ p e = ((τ : Term) × (Γ ⊢⟨ L ⟩ e ⦂ τ)) ⊎ ((r : Reason) × (q : ℕ) × Fails L Γ p e r q)
-
-abbrev NotPi : Term → Type 0
-NotPi (var i) = Unit
-NotPi star = Unit
-NotPi (app f u) = Unit
-NotPi (lam a e) = Unit
-NotPi (pi a b) = ⊥
-NotPi (castup a e) = Unit
-NotPi (castdown e) = Unit
-NotPi (mu a e) = Unit
-
-no-pi : (τ : Term) → NotPi τ → (a b : Term) → τ ≢ pi a b
-no-pi τ n a b x = subst NotPi x n
 
 -- Each test, decided: where it fails the term fails, and else the verdict is that of the tests that follow.
 module _ {L : ℕ} {Γ : Context} {p : ℕ} {e : Term} where
@@ -76,14 +64,14 @@ module _ {L : ℕ} {Γ : Context} {p : ℕ} {e : Term} where
       → (((a b : Term) → τ ≢ pi a b) → Fails L Γ p e r q)
       → ((a b : Term) → P (pi a b) → Verdict L Γ p e)
       → Verdict L Γ p e
-  is-product P (var i) h else-fails rest = failing (else-fails (no-pi (var i) tt))
-  is-product P star h else-fails rest = failing (else-fails (no-pi star tt))
-  is-product P (app f u) h else-fails rest = failing (else-fails (no-pi (app f u) tt))
-  is-product P (lam a t) h else-fails rest = failing (else-fails (no-pi (lam a t) tt))
+  is-product P (var i) h else-fails rest = failing (else-fails λ _ _ x. absurd (true≢false (cc x)))
+  is-product P star h else-fails rest = failing (else-fails λ _ _ x. absurd (true≢false (cc x)))
+  is-product P (app f u) h else-fails rest = failing (else-fails λ _ _ x. absurd (true≢false (cc x)))
+  is-product P (lam a t) h else-fails rest = failing (else-fails λ _ _ x. absurd (true≢false (cc x)))
   is-product P (pi a b) h else-fails rest = rest a b h
-  is-product P (castup a t) h else-fails rest = failing (else-fails (no-pi (castup a t) tt))
-  is-product P (castdown t) h else-fails rest = failing (else-fails (no-pi (castdown t) tt))
-  is-product P (mu a t) h else-fails rest = failing (else-fails (no-pi (mu a t) tt))
+  is-product P (castup a t) h else-fails rest = failing (else-fails λ _ _ x. absurd (true≢false (cc x)))
+  is-product P (castdown t) h else-fails rest = failing (else-fails λ _ _ x. absurd (true≢false (cc x)))
+  is-product P (mu a t) h else-fails rest = failing (else-fails λ _ _ x. absurd (true≢false (cc x)))
 
   -- τ steps.
   steps : {r : Reason} {q : ℕ} (τ : Term)

@@ -26,7 +26,6 @@ pub mod Courses
 pub mod CheckDemand
 pub mod Acceptance
 pub mod RunDemand
-pub mod Places
 pub mod SafetyDemand
 pub mod NumberInjective
 pub mod Table

@@ -69,7 +69,7 @@ rename-moved : (ρ : ℕ → ℕ) (t : Term) → rename (lift-index ρ) (rename 
 unfolding lift-index
 rename-moved ρ t = rename-rename (lift-index ρ) suc t ∙ sym (rename-rename suc ρ t)
 
-pub rename-sub : (ρ : ℕ → ℕ) (σ : ℕ → Term) (t : Term) → rename ρ (sub σ t) ≡ sub (λ i. rename ρ (σ i)) t
+rename-sub : (ρ : ℕ → ℕ) (σ : ℕ → Term) (t : Term) → rename ρ (sub σ t) ≡ sub (λ i. rename ρ (σ i)) t
 unfolding sub rename traverse lift-index lift
 rename-sub ρ σ t = fusion (λ s. s) lift var lift-index (λ s. s) lift under t σ ρ (λ i. rename ρ (σ i)) (λ i. refl)
   where

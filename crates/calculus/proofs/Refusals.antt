@@ -1,13 +1,15 @@
--- What a refusal by the rules means. Its reason is one of 10–16; and by any reason but 16 the term has no type at all, with or
--- without a limit: the failing test compares types that the rules give, and these are unique.
-use Prim.Native.Nat.{ℕ, _≤_}
+-- What a refusal by the rules means. By any reason but 16 the term has no type at all, with or without a limit: the failing test
+-- compares types that the rules give, and these are unique. Its reason is one of 10–16, and its place one of the term's.
+use Prim.Native.Nat.{ℕ, _+_}
 use mathlib.Core.Logic.{_≢_}
 use mathlib.Core.Path.{refl, _∙_, subst}
+use native.Mathlib.Omega.{arith}
 use lib.Dec.{lit≤}
-use Rattle.calculus.specs.Term.{Term}
+use Rattle.calculus.specs.Term.{Term, size}
 use Rattle.calculus.specs.Answer.{Reason, number, over-limit}
 use Rattle.calculus.specs.Rules.{Context, CanStep, _⊢_⦂_, t-app, t-lam, t-pi, t-castup, t-castdown, t-mu}
 use Rattle.calculus.specs.Failing.{Fails, star-over, var-over, app-function, app-not-product, app-argument, app-mismatch, app-over, lam-annotation, lam-not-star, lam-body, lam-over, pi-domain, pi-domain-not-star, pi-codomain, pi-codomain-not-star, pi-over, castup-annotation, castup-not-star, castup-body, castup-rests, castup-step-over, castup-mismatch, castup-over, castdown-body, castdown-rests, castdown-over, mu-annotation, mu-not-star, mu-body, mu-mismatch, mu-over}
+use Rattle.calculus.proofs.Says.{By}
 use Rattle.calculus.proofs.Reduction.{determinism}
 use Rattle.calculus.proofs.Types.{uniqueness}
 
@@ -44,36 +46,36 @@ no-type (mu-body ha x) n (t-mu de da) = no-type x n de
 no-type (mu-mismatch ha he m) n (t-mu de da) = m (uniqueness (he .typed) de)
 no-type (mu-over ha he h) n d = n refl
 
-pub fails-reason : {L : ℕ} {Γ : Context} {p q : ℕ} {e : Term} {r : Reason} → Fails L Γ p e r q → (10 ≤ number r) × (number r ≤ 16)
-unfolding number
-fails-reason (star-over h) = (lit≤ tt, lit≤ tt)
-fails-reason (var-over v h) = (lit≤ tt, lit≤ tt)
-fails-reason (app-function x) = fails-reason x
-fails-reason (app-not-product hf m) = (lit≤ tt, lit≤ tt)
-fails-reason (app-argument hf x) = fails-reason x
-fails-reason (app-mismatch hf hu m) = (lit≤ tt, lit≤ tt)
-fails-reason (app-over hf hu h) = (lit≤ tt, lit≤ tt)
-fails-reason (lam-annotation x) = fails-reason x
-fails-reason (lam-not-star ha m) = (lit≤ tt, lit≤ tt)
-fails-reason (lam-body ha x) = fails-reason x
-fails-reason (lam-over ha he h) = (lit≤ tt, lit≤ tt)
-fails-reason (pi-domain x) = fails-reason x
-fails-reason (pi-domain-not-star ha m) = (lit≤ tt, lit≤ tt)
-fails-reason (pi-codomain ha x) = fails-reason x
-fails-reason (pi-codomain-not-star ha hb m) = (lit≤ tt, lit≤ tt)
-fails-reason (pi-over ha hb h) = (lit≤ tt, lit≤ tt)
-fails-reason (castup-annotation x) = fails-reason x
-fails-reason (castup-not-star ha m) = (lit≤ tt, lit≤ tt)
-fails-reason (castup-body ha x) = fails-reason x
-fails-reason (castup-rests ha he m) = (lit≤ tt, lit≤ tt)
-fails-reason (castup-step-over ha he s h) = (lit≤ tt, lit≤ tt)
-fails-reason (castup-mismatch ha he s h m) = (lit≤ tt, lit≤ tt)
-fails-reason (castup-over ha he s h) = (lit≤ tt, lit≤ tt)
-fails-reason (castdown-body x) = fails-reason x
-fails-reason (castdown-rests he m) = (lit≤ tt, lit≤ tt)
-fails-reason (castdown-over he s h) = (lit≤ tt, lit≤ tt)
-fails-reason (mu-annotation x) = fails-reason x
-fails-reason (mu-not-star ha m) = (lit≤ tt, lit≤ tt)
-fails-reason (mu-body ha x) = fails-reason x
-fails-reason (mu-mismatch ha he m) = (lit≤ tt, lit≤ tt)
-fails-reason (mu-over ha he h) = (lit≤ tt, lit≤ tt)
+pub fails-refusal : {L : ℕ} {Γ : Context} {p q : ℕ} {e : Term} {r : Reason} → Fails L Γ p e r q → By 10 16 (p + size e) r q
+unfolding number size
+fails-refusal (star-over h) = (lit≤ tt, lit≤ tt, omega arith)
+fails-refusal (var-over v h) = (lit≤ tt, lit≤ tt, omega arith)
+fails-refusal (app-function x) = let (l, u, w) = fails-refusal x in (l, u, omega arith)
+fails-refusal (app-not-product hf m) = (lit≤ tt, lit≤ tt, omega arith)
+fails-refusal (app-argument hf x) = let (l, u, w) = fails-refusal x in (l, u, omega arith)
+fails-refusal (app-mismatch hf hu m) = (lit≤ tt, lit≤ tt, omega arith)
+fails-refusal (app-over hf hu h) = (lit≤ tt, lit≤ tt, omega arith)
+fails-refusal (lam-annotation x) = let (l, u, w) = fails-refusal x in (l, u, omega arith)
+fails-refusal (lam-not-star ha m) = (lit≤ tt, lit≤ tt, omega arith)
+fails-refusal (lam-body ha x) = let (l, u, w) = fails-refusal x in (l, u, omega arith)
+fails-refusal (lam-over ha he h) = (lit≤ tt, lit≤ tt, omega arith)
+fails-refusal (pi-domain x) = let (l, u, w) = fails-refusal x in (l, u, omega arith)
+fails-refusal (pi-domain-not-star ha m) = (lit≤ tt, lit≤ tt, omega arith)
+fails-refusal (pi-codomain ha x) = let (l, u, w) = fails-refusal x in (l, u, omega arith)
+fails-refusal (pi-codomain-not-star ha hb m) = (lit≤ tt, lit≤ tt, omega arith)
+fails-refusal (pi-over ha hb h) = (lit≤ tt, lit≤ tt, omega arith)
+fails-refusal (castup-annotation x) = let (l, u, w) = fails-refusal x in (l, u, omega arith)
+fails-refusal (castup-not-star ha m) = (lit≤ tt, lit≤ tt, omega arith)
+fails-refusal (castup-body ha x) = let (l, u, w) = fails-refusal x in (l, u, omega arith)
+fails-refusal (castup-rests ha he m) = (lit≤ tt, lit≤ tt, omega arith)
+fails-refusal (castup-step-over ha he s h) = (lit≤ tt, lit≤ tt, omega arith)
+fails-refusal (castup-mismatch ha he s h m) = (lit≤ tt, lit≤ tt, omega arith)
+fails-refusal (castup-over ha he s h) = (lit≤ tt, lit≤ tt, omega arith)
+fails-refusal (castdown-body x) = let (l, u, w) = fails-refusal x in (l, u, omega arith)
+fails-refusal (castdown-rests he m) = (lit≤ tt, lit≤ tt, omega arith)
+fails-refusal (castdown-over he s h) = (lit≤ tt, lit≤ tt, omega arith)
+fails-refusal (mu-annotation x) = let (l, u, w) = fails-refusal x in (l, u, omega arith)
+fails-refusal (mu-not-star ha m) = (lit≤ tt, lit≤ tt, omega arith)
+fails-refusal (mu-body ha x) = let (l, u, w) = fails-refusal x in (l, u, omega arith)
+fails-refusal (mu-mismatch ha he m) = (lit≤ tt, lit≤ tt, omega arith)
+fails-refusal (mu-over ha he h) = (lit≤ tt, lit≤ tt, omega arith)

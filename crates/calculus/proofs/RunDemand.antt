@@ -1,6 +1,6 @@
 -- Demand 2 for runs. Whatever `Runs` says is what `run` answers, by computing through the tests and, past them, since a run has one
 -- course; and `Runs` says something of every call, since each test is decided and every run has a course.
-use Prim.Native.Nat.{ℕ, _≤_, min}
+use Prim.Native.Nat.{ℕ, _≤_, zero-le, min}
 use mathlib.Core.List.{List}
 use mathlib.Core.Path.{_≡_, refl, sym, subst}
 use native.Mathlib.Decide.{decLe}
@@ -14,8 +14,8 @@ use Rattle.calculus.specs.Reading.{read}
 use Rattle.calculus.specs.Outcomes.{run-room, Ran, course, ran, run}
 use Rattle.calculus.specs.Runs.{Runs, work-refused, state-refused, unread, ended, Demand2-run, RunRefusals}
 use Rattle.calculus.proofs.Comparisons.{le-leb, gt-leb}
-use Rattle.calculus.proofs.Says.{RefusedBy}
-use Rattle.calculus.proofs.ReadBack.{read-sound, read-exactly, read-reason}
+use Rattle.calculus.proofs.Says.{By, Says, says-ok, says-refused, of-refused}
+use Rattle.calculus.proofs.ReadBack.{read-sound, read-exactly, read-refusal}
 use Rattle.calculus.proofs.Courses.{run-course, course-answer}
 
 module _ (ws : List ℕ) (budget allowance : ℕ) (W S : List ℕ) where
@@ -65,14 +65,19 @@ pub demand2-run : Demand2-run
 demand2-run ws budget allowance W S c =
     (λ e. subst (Runs ws budget allowance W S) e (run-runs ws budget allowance W S), run-answer ws budget allowance W S)
 
-refused-by : {ws : List ℕ} {budget allowance : ℕ} {W S : List ℕ} {c : Ran}
+-- How far the numbers of a refusal reach.
+numbers : {ws : List ℕ} {budget allowance : ℕ} {W S : List ℕ} {c : Ran}
     → Runs ws budget allowance W S c
-    → RefusedBy 2 9 (c .answer)
+    → Says (λ _. Unit {0}) (By 2 9 longest) (c .answer)
 unfolding number
-refused-by (work-refused w) = (lit≤ tt, lit≤ tt)
-refused-by (state-refused w s) = (lit≤ tt, lit≤ tt)
-refused-by {ws} (unread {r} {p} w s e) = let (l, u) = read-reason ws r p e in omega arith
-refused-by (ended w s c k b l f) = tt
+numbers (work-refused w) = says-refused (lit≤ tt, lit≤ tt, zero-le)
+numbers (state-refused w s) = says-refused (lit≤ tt, lit≤ tt, zero-le)
+numbers {ws} (unread {r} {p} w s e) = let (l, u, q) = read-refusal ws r p e in says-refused {r = r} (omega arith, u, q)
+numbers (ended w s c k b l f) = says-ok tt
+
+pub run-numbers : (ws : List ℕ) (budget allowance : ℕ) (W S : List ℕ)
+    → Says (λ _. Unit {0}) (By 2 9 longest) (run ws budget allowance W S .answer)
+run-numbers ws budget allowance W S = numbers (run-runs ws budget allowance W S)
 
 pub run-refusals : RunRefusals
-run-refusals ws budget allowance W S r p e = subst (RefusedBy 2 9) e (refused-by (run-runs ws budget allowance W S))
+run-refusals ws budget allowance W S r p e = let (l, u, q) = of-refused (rw e at (run-numbers ws budget allowance W S)) in (l, u)

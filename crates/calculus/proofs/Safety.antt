@@ -1,7 +1,6 @@
 -- Type safety (document 002, Theorems B.10 and B.11): a step keeps the type, a value's form is told by its type, and a closed typed
 -- term is a value or steps. By induction on the derivation; the casts need that a step is unique.
-use Prim.Native.Nat.{ℕ}
-use native.Mathlib.Omega.{arith}
+use mathlib.Core.Bool.{true≢false}
 use mathlib.Core.List.{[], _∷_}
 use mathlib.Core.Path.{_≡_, refl}
 use mathlib.Core.Logic.{_⊎_, inl, inr}
@@ -43,33 +42,29 @@ preservation (t-castdown e a s) s-castdownup = castdownup-typed e s
 preservation (t-castdown e a s) (s-castdown h) = t-castdown (preservation e h) a s
 preservation (t-mu e a) s-mu = rw substitute-raise at (substitution e (t-mu e a))
 
--- Two constructors are never equal: from such an equation `cc` gets this one.
-clash : {A : Type 0} → _≡_ {A = ℕ} 0 1 → A
-clash p = absurd (omega arith)
-
 pub canonical : {Γ : Context} {v τ : Term} → Value v → Γ ⊢ v ⦂ τ → Canonical v τ
 canonical v-star (t-ax w) =
     record {
       stars = (λ p. inl refl, λ s. refl);
-      products = (λ p. clash (cc (p .2)), λ l. clash (cc (l .2)));
-      stepping = (λ s. absurd (value-rests v-star (s .1)), λ c. clash (cc (c .2)));
+      products = (λ p. absurd (true≢false (cc (p .2))), λ l. absurd (true≢false (cc (l .2))));
+      stepping = (λ s. absurd (value-rests v-star (s .1)), λ c. absurd (true≢false (cc (c .2))));
     }
 canonical v-pi (t-pi {τ₁ = a} {τ₂ = b} d e) =
     record {
       stars = (λ p. inr (a, b, refl), λ s. refl);
-      products = (λ p. clash (cc (p .2)), λ l. clash (cc (l .2)));
-      stepping = (λ s. absurd (value-rests v-star (s .1)), λ c. clash (cc (c .2)));
+      products = (λ p. absurd (true≢false (cc (p .2))), λ l. absurd (true≢false (cc (l .2))));
+      stepping = (λ s. absurd (value-rests v-star (s .1)), λ c. absurd (true≢false (cc (c .2))));
     }
 canonical v-lam (t-lam {e = e} {τ₁ = a} {τ₂ = b} d q) =
     record {
-      stars = (λ p. clash (cc p), λ s. elim s [ inl p ↦ clash (cc p) | inr p ↦ clash (cc (p .2)) ]);
+      stars = (λ p. absurd (true≢false (cc p)), λ s. elim s [ inl p ↦ absurd (true≢false (cc p)) | inr p ↦ absurd (true≢false (cc (p .2))) ]);
       products = (λ p. (a, e, refl), λ l. (a, b, refl));
-      stepping = (λ s. absurd (value-rests v-pi (s .1)), λ c. clash (cc (c .2)));
+      stepping = (λ s. absurd (value-rests v-pi (s .1)), λ c. absurd (true≢false (cc (c .2))));
     }
 canonical v-castup (t-castup {e = e} {τ₁ = a} {τ₂ = b} d q r) =
     record {
-      stars = (λ p. absurd (value-rests v-star (rw p at r)), λ s. elim s [ inl p ↦ clash (cc p) | inr p ↦ clash (cc (p .2)) ]);
-      products = (λ p. absurd (value-rests v-pi (rw (p .2) at r)), λ l. clash (cc (l .2)));
+      stars = (λ p. absurd (value-rests v-star (rw p at r)), λ s. elim s [ inl p ↦ absurd (true≢false (cc p)) | inr p ↦ absurd (true≢false (cc (p .2))) ]);
+      products = (λ p. absurd (value-rests v-pi (rw (p .2) at r)), λ l. absurd (true≢false (cc (l .2))));
       stepping = (λ s. (a, e, refl), λ c. (b, r));
     }
 

@@ -14,7 +14,7 @@ use Rattle.calculus.specs.Run.{State, state-zero, state-suc, End, at-stu
 use Rattle.calculus.specs.Outcomes.{Ran, run}
 use Rattle.calculus.specs.Runs.{Runs, work-refused, state-refused, unread, ended}
 use Rattle.calculus.specs.Safety.{Only, Safe, Safely, work-refused as work-refused′, state-refused as state-refused′, ended as ended′, SafeRun, Demand3}
-use Rattle.calculus.proofs.Coding.{words-injective}
+use Rattle.calculus.proofs.Coding.{words-injective, codes-one}
 use Rattle.calculus.proofs.ReadBack.{read-exactly}
 use Rattle.calculus.proofs.Types.{uniqueness}
 use Rattle.calculus.proofs.Safety.{preservation, progress, typed-next, canonical}
@@ -61,7 +61,7 @@ safely {t} {τ} c d (ended {E} {n} {t = t′} {x} w s c′ k b l f) =
     ended′ w s last f (not-stuck (state-typed d last) f) states
   where
     one : t′ ≡ t
-    one = words-injective t′ t (sym (c′ .0) ∙ c .0)
+    one = codes-one c′ c
 
     last : State t n x
     last = subst (λ z. State z n x) one k
@@ -79,7 +79,7 @@ demand3 = (runs-safely, λ Γ v τ. canonical)
         let (t, τ, a) = accepted ws L W₁ O₁ n e in (
           t,
           τ,
-          (a .coded, λ t′ p. words-injective t′ t (sym (p .0) ∙ a .coded .0)),
+          (a .coded, λ t′ p. codes-one p (a .coded)),
           (sym (a .front), λ τ′ p. words-injective τ′ τ (p ∙ a .front)),
           safely (a .coded) (a .typing .typed) (run-runs ws budget allowance W S),
         )

@@ -42,7 +42,6 @@ unfolding require
 says-require r p true h = says-ok tt
 says-require r p false h = says-refused h
 
--- A refusal by a reason with a number from m to n; an answer is none.
-abbrev pub RefusedBy : {A : Type 0} → ℕ → ℕ → Answer A → Type 0
-RefusedBy m n (ok a) = Unit
-RefusedBy m n (refused r p) = (m ≤ number r) × (number r ≤ n)
+-- A refusal by one of the numbers from `lo` to `hi`, at a place up to `n`.
+abbrev pub By : ℕ → ℕ → ℕ → Reason → ℕ → Type 0
+By lo hi n r p = (lo ≤ number r) × (number r ≤ hi) × (p ≤ n)

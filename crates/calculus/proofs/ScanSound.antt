@@ -1,18 +1,20 @@
 -- What a scan says. Accepted words are those of terms that fit, one for each pending subterm, one after another and nothing
--- over: the terms after a word are its parts, and the node made of them has that word. A refusal has one of reading's reasons.
-use Prim.Native.Nat.{ℕ, suc, _≤_, _<_, max}
+-- over: the terms after a word are its parts, and the node made of them has that word. A refusal has one of reading's reasons, at a
+-- word or at the end.
+use Prim.Native.Nat.{ℕ, suc, _+_, _≤_, _<_, max}
 use mathlib.Core.List.{List, [], _∷_, _++_, map}
 use mathlib.Core.Path.{_≡_, refl, sym, ap₂, _∙_, subst}
 use native.Mathlib.Nat.{add-zero}
 use native.Mathlib.Numerals.{add-one}
 use native.Mathlib.Omega.{arith}
 use lib.Dec.{T, ltb, ltb→lt, lit≤}
+use lib.ListN.{length}
 use Rattle.calculus.specs.Term.{Term, app, lam, pi, castup, mu}
 use Rattle.calculus.specs.Words.{emit, levels, Scoped}
 use Rattle.calculus.specs.Answer.{Reason, number, no-meaning, level-65, unbound}
 use Rattle.calculus.specs.Reading.{Meaning, a-star, a-castdown, an-app, a-castup, a-lam, a-pi, a-mu, a-variable, nothing, meaning, means, bound, binds, test, node, node₁, node₂, Pending, below, scan}
 use Rattle.calculus.proofs.Meanings.{word, word-meaning}
-use Rattle.calculus.proofs.Says.{Says, says-ok, says-refused, says-weaker, says-bind, says-then, says-require}
+use Rattle.calculus.proofs.Says.{By, Says, says-ok, says-refused, says-weaker, says-bind, says-then, says-require}
 
 -- A term that may stand where the pending subterm `s` is awaited.
 pub record Fills (s : Pending) (t : Term) : Type 0 where
@@ -73,9 +75,9 @@ made a-mu s m room b (filled-one ha (filled-one he h)) =
 made (a-variable i) s m room b h = (refl, filled-one (record { scoped = ltb→lt i (s .binders) b; within = room }) h)
 made nothing s m room b h = elim m [ ]
 
--- The reasons why a list of words is no term, by their numbers.
-abbrev pub No-term : Reason → ℕ → Type 0
-No-term r p = (4 ≤ number r) × (number r ≤ 9)
+-- Why a list of words that ends at `n` is no term.
+abbrev pub No-term : ℕ → Reason → ℕ → Type 0
+No-term n = By 4 9 n
 
 -- What a passed test tells of a word at `s`.
 record Tested (m : Meaning) (s : Pending) : Type 0 where
@@ -83,21 +85,23 @@ record Tested (m : Meaning) (s : Pending) : Type 0 where
   roomy : 0 < s .room
   inside : T (bound m (s .binders))
 
-test-says : (m : Meaning) (s : Pending) (p : ℕ) → Says (λ _. Tested m s) No-term (test m s p)
+test-says : {n : ℕ} (m : Meaning) (s : Pending) (p : ℕ) → p ≤ n → Says (λ _. Tested m s) (No-term n) (test m s p)
 unfolding test number
-test-says m s p =
-    says-then (says-require no-meaning p (means m) (lit≤ tt, lit≤ tt)) λ _ meant.
-    says-then (says-require level-65 p (ltb 0 (s .room)) (lit≤ tt, lit≤ tt)) λ _ roomy.
-    says-weaker (says-require unbound p (bound m (s .binders)) (lit≤ tt, lit≤ tt)) λ _ inside.
+test-says m s p at =
+    says-then (says-require no-meaning p (means m) (lit≤ tt, lit≤ tt, at)) λ _ meant.
+    says-then (says-require level-65 p (ltb 0 (s .room)) (lit≤ tt, lit≤ tt, at)) λ _ roomy.
+    says-weaker (says-require unbound p (bound m (s .binders)) (lit≤ tt, lit≤ tt, at)) λ _ inside.
     record { meant = meant; roomy = ltb→lt 0 (s .room) roomy; inside = inside }
 
-pub scan-says : (ws : List ℕ) (ss : List Pending) (p : ℕ) → Says (λ ts. (ws ≡ emits ts) × Filled ss ts) No-term (scan ws ss p)
+pub scan-says : {n : ℕ} (ws : List ℕ) (ss : List Pending) (p : ℕ)
+    → p + length ws ≤ n
+    → Says (λ ts. (ws ≡ emits ts) × Filled ss ts) (No-term n) (scan ws ss p)
 unfolding scan emits number
-scan-says [] [] p = says-ok (refl, filled-none)
-scan-says [] (s ∷ ss) p = says-refused (lit≤ tt, lit≤ tt)
-scan-says (w ∷ ws) [] p = says-refused (lit≤ tt, lit≤ tt)
-scan-says (w ∷ ws) (s ∷ ss) p =
-    says-then (test-says (meaning w) s p) λ _ t.
-    says-bind (scan-says ws (map (below s) (binds (meaning w)) ++ ss) (suc p)) λ ts h.
+scan-says [] [] p end = says-ok (refl, filled-none)
+scan-says [] (s ∷ ss) p end = says-refused {p = p} (lit≤ tt, lit≤ tt, omega arith)
+scan-says (w ∷ ws) [] p end = says-refused {p = p} (lit≤ tt, lit≤ tt, omega arith)
+scan-says (w ∷ ws) (s ∷ ss) p end =
+    says-then (test-says (meaning w) s p (omega arith)) λ _ t.
+    says-bind (scan-says ws (map (below s) (binds (meaning w)) ++ ss) (suc p) (omega arith)) λ ts h.
     let here = made (meaning w) s (t .meant) (t .roomy) (t .inside) (h .1) in
     says-ok (ap₂ _∷_ (sym (word-meaning w (t .meant))) (h .0) ∙ sym (here .0), here .1)

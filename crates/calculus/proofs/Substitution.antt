@@ -10,7 +10,7 @@ use Rattle.calculus.proofs.Along.{Carries, along}
 use Rattle.calculus.proofs.Thinning.{thinning, well-formed}
 
 -- `σ` puts in, for each variable of Γ, a term that has its type in Δ.
-abbrev pub WellTyped : (ℕ → Term) → Context → Context → Type 0
+abbrev WellTyped : (ℕ → Term) → Context → Context → Type 0
 WellTyped σ Γ Δ = (i : ℕ) (τ : Term) → Γ ∋ i ⦂ τ → Δ ⊢ σ i ⦂ sub σ τ
 
 well-typed-under : {σ : ℕ → Term} {Γ Δ : Context} {a : Term} → WellTyped σ Γ Δ → WellFormed (sub σ a ∷ Δ) → WellTyped (lift σ) (a ∷ Γ) (sub σ a ∷ Δ)
@@ -18,7 +18,7 @@ unfolding lift
 well-typed-under {σ} p w i t (here {τ = τ}) = rw (sub-raise σ τ) (t-var w here)
 well-typed-under {σ} p w i t (there {τ = τ} {i = k} x) = rw (sub-raise σ τ, ← raise-moves (σ k)) (thinning (p k τ x) w)
 
-pub substitution-along : {σ : ℕ → Term} {Γ Δ : Context} {e τ : Term} → Γ ⊢ e ⦂ τ → WellTyped σ Γ Δ → WellFormed Δ → Δ ⊢ sub σ e ⦂ sub σ τ
+substitution-along : {σ : ℕ → Term} {Γ Δ : Context} {e τ : Term} → Γ ⊢ e ⦂ τ → WellTyped σ Γ Δ → WellFormed Δ → Δ ⊢ sub σ e ⦂ sub σ τ
 substitution-along h p w = along carries p w h
   where
     carries : Carries WellTyped

@@ -13,11 +13,12 @@ use Rattle.calculus.specs.Reading.{meaning, binds, means, bound, test, n
 use Rattle.calculus.specs.Rules.{_⟶_, env-empty}
 use Rattle.calculus.specs.Step.{Next, value, stuck, next, under, applied, cancelled, step}
 use Rattle.calculus.specs.Infer.{annotation, same, measure, product, stepped, infer}
-use Rattle.calculus.specs.Run.{State, state-zero, state-suc, ends-spent, End, spent, end-number, Ended, stop, one-more, advance, run-from}
+use Rattle.calculus.specs.Run.{State, state-zero, state-suc, ends-spent, End, spent, end-number, Ended, done, one-more, advance, run-from}
 use Rattle.calculus.specs.Outcomes.{largest-limit}
 use Rattle.calculus.specs.Checks.{Allowed, untyped, typed}
 use Rattle.calculus.specs.Runs.{ended}
 use Rattle.calculus.specs.Starred.{Row, types, refuses, ends, spins, Claim, Claims, starred, StarredTerms}
+use Rattle.calculus.proofs.Comparisons.{both}
 use Rattle.calculus.proofs.Coding.{words-length, words-injective}
 use Rattle.calculus.proofs.ReadBack.{read-sound}
 use Rattle.calculus.proofs.Stepping.{next-step}
@@ -67,10 +68,6 @@ rows-hold [] = true
 rows-hold (r ∷ rs) = row-holds r && rows-hold rs
 
 -- What each test says.
-both : (a b : Bool) → T (a && b) → T a × T b
-both true b h = (tt, h)
-both false b h = elim h [ ]
-
 same-words-equal : (xs ys : List ℕ) → T (same-words xs ys) → xs ≡ ys
 unfolding same-words
 same-words-equal [] [] h = refl
@@ -222,5 +219,5 @@ rows-claim (r ∷ rs) h =
     (row-claim r i, rows-claim rs j)
 
 pub starred-terms : StarredTerms
-unfolding rows-hold row-holds same-words on-answer refused-by on-next allowed ended-by read scan test means meaning bound binds node node₁ node₂ below the-first _>>=_ _>>_ require number infer annotation measure product stepped same decide size raise substitute step under applied cancelled words emit run-from advance stop one-more end-number
+unfolding rows-hold row-holds same-words on-answer refused-by on-next allowed ended-by read scan test means meaning bound binds node node₁ node₂ below the-first _>>=_ _>>_ require number infer annotation measure product stepped same decide size raise substitute step under applied cancelled words emit run-from advance done one-more end-number
 starred-terms = rows-claim starred tt

@@ -34,10 +34,10 @@ variables-under {σ} {Δ = Δ} {a} p i t (there {τ = τ} {i = k} x) =
     (suc j, ap (rename suc) q, subst (λ b. (sub σ a ∷ Δ) ∋ suc j ⦂ b) (sym (sub-raise σ τ)) (there y))
 
 -- `ρ` takes the variables of Γ to variables of Δ that have the same types.
-abbrev pub Thins : (ℕ → ℕ) → Context → Context → Type 0
+abbrev Thins : (ℕ → ℕ) → Context → Context → Type 0
 Thins ρ Γ Δ = (i : ℕ) (τ : Term) → Γ ∋ i ⦂ τ → Δ ∋ ρ i ⦂ rename ρ τ
 
-pub thinning-along : {ρ : ℕ → ℕ} {Γ Δ : Context} {e τ : Term} → Γ ⊢ e ⦂ τ → Thins ρ Γ Δ → WellFormed Δ → Δ ⊢ rename ρ e ⦂ rename ρ τ
+thinning-along : {ρ : ℕ → ℕ} {Γ Δ : Context} {e τ : Term} → Γ ⊢ e ⦂ τ → Thins ρ Γ Δ → WellFormed Δ → Δ ⊢ rename ρ e ⦂ rename ρ τ
 thinning-along {ρ} {Γ} {Δ} {e} {τ} h p w = rw (rename-is-sub ρ e, rename-is-sub ρ τ) (along carries variables w h)
   where
     variables : ToVariables (λ i. var (ρ i)) Γ Δ

@@ -1,7 +1,6 @@
 -- Where typing first fails (document 01, "Typing, in checking order"), from the rules alone.
 use Prim.Native.Nat.{ℕ, suc, _+_, _≤_, _<_}
 use mathlib.Core.List.{_∷_}
-use mathlib.Core.Path.{_≡_}
 use mathlib.Core.Logic.{_≢_}
 use Rattle.calculus.specs.Term.{Term, var, star, app, lam, pi, castup, castdown, mu, size, raise, substitute}
 use Rattle.calculus.specs.Answer.{Reason, not-star, not-product, wrong-argument, no-step, wrong-cast, wrong-recursion, over-limit}

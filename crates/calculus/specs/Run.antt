@@ -37,18 +37,19 @@ pub record Ended : Type 0 where
   pub steps : ℕ
   pub state : Term
 
-unfoldable pub stop : End → Term → Ended
-stop E x = record { end = E; steps = 0; state = x }
+-- At the state `x`, with no step more.
+unfoldable pub done : End → Term → Ended
+done E x = record { end = E; steps = 0; state = x }
 
 unfoldable pub one-more : Ended → Ended
 one-more r = record { end = r .end; steps = suc (r .steps); state = r .state }
 
 -- The run on from the state `x`, by its next state; `go` is the run within one step less.
 unfoldable pub advance : (Term → Ended) → Term → Next → Ended
-advance go x value = stop at-value x
-advance go x stuck = stop at-stuck x
-advance go x (next y) = cond (leb (size y) longest) (one-more (go y)) (stop too-long x)
+advance go x value = done at-value x
+advance go x stuck = done at-stuck x
+advance go x (next y) = cond (leb (size y) longest) (one-more (go y)) (done too-long x)
 
 unfoldable pub run-from : ℕ → Term → Ended
-run-from zero x = stop spent x
+run-from zero x = done spent x
 run-from (suc g) x = advance (run-from g) x (step x)

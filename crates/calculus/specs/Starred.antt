@@ -5,7 +5,7 @@ use mathlib.Core.List.{List, [], _∷_}
 use mathlib.Core.Path.{_≡_}
 use mathlib.Core.Logic.{_≢_}
 use lib.ListN.{length}
-use Rattle.calculus.specs.Term.{Term, size}
+use Rattle.calculus.specs.Term.{Term}
 use Rattle.calculus.specs.Answer.{ok, refused, Reason, not-star, not-product, wrong-argument, no-step, wrong-cast, wrong-recursion, over-limit}
 use Rattle.calculus.specs.Words.{words, Codes, longest}
 use Rattle.calculus.specs.Rules.{_⟶_, _⊢_⦂_}

@@ -3,47 +3,24 @@
 -- Whatever equals the outcome has demand 3, which the outcome has.
 use Prim.Native.Nat.{ℕ, _-_, _≤_, min}
 use mathlib.Core.List.{List}
-use mathlib.Core.Path.{_≡_, refl, sym, _∙_, ap, subst}
+use mathlib.Core.Path.{_≡_, sym, _∙_, ap, subst}
 use native.Mathlib.Omega.{arith}
 use lib.Dec.{lit≤}
 use lib.ListN.{length}
 use Rattle.calculus.specs.Term.{Term}
 use Rattle.calculus.specs.Words.{words, Readable, longest}
-use Rattle.calculus.specs.Answer.{Answer, ok, refused}
-use Rattle.calculus.specs.Reading.{read}
+use Rattle.calculus.specs.Answer.{ok}
 use Rattle.calculus.specs.Run.{run-from}
 use Rattle.calculus.specs.Outcomes.{Ran, begun, run, run-room}
 use Rattle.calculus.specs.Runs.{Runs, ended}
 use Rattle.calculus.specs.Safety.{SafeRun}
-use Rattle.calculus.proofs.ReadBack.{read-sound}
 use Rattle.calculus.proofs.Courses.{run-course}
 use Rattle.calculus.proofs.RunDemand.{run-answer}
 use Rattle.calculus.proofs.SafetyDemand.{demand3}
-use Rattle.term.specs.Reasons.{reason-of}
-use Rattle.term.specs.Subterms.{outcome}
-use Rattle.term.specs.declared.refusal.Refusal.{Refusal}
 use Rattle.evaluation.specs.declared.Course.{Course}
 use Rattle.evaluation.specs.Courses.{Performs}
 use Rattle.evaluation.specs.Outcomes.{end-of, ended as left}
-use Rattle.evaluation.proofs.Begun.{cleared-same}
-
--- A list that is read is a readable term's words.
-pub readable : (ws : List ℕ) → ok tt ≡ outcome (read ws) → (t : Term) × (ws ≡ words t) × Readable t
-readable ws h = on (read ws) refl h
-  where
-    on : (a : Answer Term) → read ws ≡ a → ok tt ≡ outcome a → (t : Term) × (ws ≡ words t) × Readable t
-    on (ok t) e h = let (c, r) = read-sound ws t e in (t, c, r)
-    on (refused r p) e h = let z : _≡_ {A = ℕ} 0 1 = cc in absurd (omega arith)
-
--- One that is refused is refused as it is read.
-pub unreadable : (ws : List ℕ) (f : Refusal)
-    → refused (reason-of (f .reason)) (f .place) ≡ outcome (read ws)
-    → read ws ≡ refused (reason-of (f .reason)) (f .place)
-unreadable ws f h = on (read ws) h
-  where
-    on : (a : Answer Term) → refused (reason-of (f .reason)) (f .place) ≡ outcome a → a ≡ refused (reason-of (f .reason)) (f .place)
-    on (ok t) h = let z : _≡_ {A = ℕ} 0 1 = cc in absurd (omega arith)
-    on (refused r p) h = cc
+use Rattle.reduction.proofs.Begun.{cleared-same}
 
 -- A course takes no more steps than are granted.
 pub steps-within : (grant : ℕ) {t : Term} {W : List ℕ} {c : Course} {after : List ℕ}

@@ -1,6 +1,5 @@
 -- The laws behind the functions' proofs.
 pub mod Scoping
-pub mod Begun
 pub mod States
 pub mod Turns
 pub mod Answers

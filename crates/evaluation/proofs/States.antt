@@ -8,9 +8,9 @@ use mathlib.Core.Path.{_≡_, refl, sym, _∙_, ap, subst}
 use native.Mathlib.Omega.{arith}
 use lib.Dec.{lit≤}
 use lib.ListN.{length, take, drop, take-append-drop}
-use lib.Seq.{sets, take-append-le, drop-at, length-take-le}
+use lib.Seq.{take-append-le, drop-at, length-take-le}
 use Rattle.calculus.specs.Term.{Term, size}
-use Rattle.calculus.specs.Words.{words, Scoped, Readable, longest, deepest}
+use Rattle.calculus.specs.Words.{words, Readable, longest, deepest}
 use Rattle.calculus.specs.Rules.{_⟶_}
 use Rattle.calculus.specs.Step as calculus
 use Rattle.calculus.specs.Outcomes.{begun}
@@ -22,16 +22,9 @@ use Rattle.reduction.specs.declared.copying.Room.{Room}
 use Rattle.reduction.specs.declared.stepping.Stepped.{Stepped}
 use Rattle.reduction.specs.declared.stepping.Stepped.the-variants as stepped
 use Rattle.reduction.proofs.Scoping.{scoped-more}
-use Rattle.evaluation.specs.Courses.{Holds, Advances}
-use Rattle.evaluation.proofs.Begun.{sets-begun, take-begun, drop-begun}
+use Rattle.evaluation.specs.Courses.{Spells, Holds, Advances}
+use Rattle.reduction.proofs.Begun.{sets-begun, writes-begun, take-begun, drop-begun}
 use Rattle.evaluation.proofs.Scoping.{step-scoped}
-
--- The words are those of the closed term `x`, which are `count` in number and at most 1,024.
-pub record Spells (e : List ℕ) (count : ℕ) (x : Term) : Type 0 where
-  pub coded : e ≡ words x
-  pub extent : count ≡ size x
-  pub short : size x ≤ longest
-  pub closed : Scoped 0 x
 
 pub readable-spells : (e : List ℕ) {t : Term} → e ≡ words t → Readable t → Spells e (length e) t
 readable-spells e {t} h r =
@@ -51,29 +44,27 @@ spells-codes {x} h =
       shut = λ _. h .closed;
     }
 
-pub held-spells : {slice : List ℕ} {count : ℕ} {x : Term} → Holds slice count x → Spells (take count slice) count x
-held-spells h = record { coded = h .front; extent = h .extent; short = h .short; closed = h .closed }
-
 -- A copy of them to the start of a slice.
 module _ {e slice : List ℕ} {r : Room} {after : List ℕ} {count : ℕ} {x : Term}
     (w : Writes e slice 0 r after)
     (h : Spells e count x)
     (room : longest ≤ length slice) where
   pub copied-begun : after ≡ begun (words x) slice
-  copied-begun =
-      let l : 0 + length e ≤ length slice = omega (arith, spells-length h) in
-      w .fits l .1 ∙ ap (sets slice 0) (h .coded) ∙ sets-begun slice (words x) (omega (arith, words-length x))
+  copied-begun = writes-begun w (omega (arith, spells-length h)) ∙ ap (λ front. begun front slice) (h .coded)
 
   pub copied-held : Holds after count x
   copied-held =
       record {
         front =
-            ap (take count) copied-begun
-            ∙ ap (λ n. take n (begun (words x) slice)) (h .extent ∙ sym (words-length x))
-            ∙ take-begun slice (words x);
-        extent = h .extent;
-        short = h .short;
-        closed = h .closed;
+            record {
+              coded =
+                  ap (take count) copied-begun
+                  ∙ ap (λ n. take n (begun (words x) slice)) (h .extent ∙ sym (words-length x))
+                  ∙ take-begun slice (words x);
+              extent = h .extent;
+              short = h .short;
+              closed = h .closed;
+            };
       }
 
   pub copied-behind : drop longest after ≡ drop longest slice
@@ -100,13 +91,16 @@ module _ {work : List ℕ} {count : ℕ} {x : Term}
         f .0 ∙ ap stepped.To (words-length y),
         record {
           front =
-              take-append-le (size y) room (drop longest work) (omega arith)
-              ∙ ap (take (size y)) (f .1 ∙ sets-begun (take longest work) (words y) (omega (arith, words-length y)))
-              ∙ ap (λ k. take k (begun (words y) (take longest work))) (sym (words-length y))
-              ∙ take-begun (take longest work) (words y);
-          extent = refl;
-          short = l;
-          closed = step-scoped 0 s (h .closed);
+              record {
+                coded =
+                    take-append-le (size y) room (drop longest work) (omega arith)
+                    ∙ ap (take (size y)) (f .1 ∙ sets-begun (take longest work) (words y) (omega (arith, words-length y)))
+                    ∙ ap (λ k. take k (begun (words y) (take longest work))) (sym (words-length y))
+                    ∙ take-begun (take longest work) (words y);
+                extent = refl;
+                short = l;
+                closed = step-scoped 0 s (h .front .closed);
+              };
         },
       )
 

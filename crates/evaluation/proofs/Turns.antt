@@ -11,7 +11,7 @@ use lib.ListN.{drop}
 use Rattle.calculus.specs.Term.{Term, size}
 use Rattle.calculus.specs.Words.{longest}
 use Rattle.calculus.specs.Step as calculus
-use Rattle.calculus.specs.Run.{at-value, at-stuck, too-long, Ended, stop, one-more, run-from}
+use Rattle.calculus.specs.Run.{at-value, at-stuck, too-long, Ended, done, one-more, run-from}
 use Rattle.calculus.specs.Run as run
 use Rattle.calculus.proofs.Comparisons.{le-leb, gt-leb}
 use Rattle.reduction.specs.declared.stepping.Stepped.{Stepped}
@@ -44,9 +44,9 @@ reaches-first {grant} {t} h =
 -- What the answer of a step from `x` says of the run from there with one step more than `g` granted, and what then stands at
 -- the front.
 Turned : ℕ → Term → ℕ → List ℕ → Stepped → Type 0
-Turned g x count after stepped.Value = (run-from (suc g) x ≡ stop at-value x) × Holds after count x
-Turned g x count after stepped.Stuck = (run-from (suc g) x ≡ stop at-stuck x) × Holds after count x
-Turned g x count after stepped.Full = (run-from (suc g) x ≡ stop too-long x) × Holds after count x
+Turned g x count after stepped.Value = (run-from (suc g) x ≡ done at-value x) × Holds after count x
+Turned g x count after stepped.Stuck = (run-from (suc g) x ≡ done at-stuck x) × Holds after count x
+Turned g x count after stepped.Full = (run-from (suc g) x ≡ done too-long x) × Holds after count x
 Turned g x count after (stepped.To n) = (y : Term) × (run-from (suc g) x ≡ one-more (run-from g y)) × Holds after n y
 
 turned : (g : ℕ) (x : Term) (work : List ℕ) (count : ℕ) (after : List ℕ) (r : Stepped)
@@ -78,7 +78,7 @@ pub data Stops : Stepped → End → Type 0 where
 stopped : (g : ℕ) (x : Term) (count : ℕ) (after : List ℕ) {r : Stepped} {E : End}
     → Stops r E
     → Turned g x count after r
-    → (run-from (suc g) x ≡ stop (end-of E) x) × Holds after count x
+    → (run-from (suc g) x ≡ done (end-of E) x) × Holds after count x
 unfolding Turned
 stopped g x count after stops-value h = h
 stopped g x count after stops-stuck h = h
@@ -88,11 +88,11 @@ module _ {grant taken : ℕ} {t : Term} {work : List ℕ} {count : ℕ} (h : Rea
   -- A run that ends at the present state.
   ends : {start after : List ℕ} (E : End) (m : ℕ)
       → grant - taken ≡ m
-      → run-from m (h .state) ≡ stop (end-of E) (h .state)
+      → run-from m (h .state) ≡ done (end-of E) (h .state)
       → Holds after count (h .state)
       → drop longest after ≡ drop longest start
       → Performs (run-from grant t) start (record { end = E; steps = taken; length = count }) after
-  unfolding stop
+  unfolding done
   ends {start} {after} E m n e k b =
       subst (λ r. Performs r start (record { end = E; steps = taken; length = count }) after)
       (sym (h .course ∙ ap (λ g. later taken (run-from g (h .state))) n ∙ ap (later taken) e))

@@ -12,12 +12,16 @@ use Rattle.reduction.specs.declared.stepping.Stepped.the-variants as stepped
 use Rattle.evaluation.specs.declared.Course.{Course}
 use Rattle.evaluation.specs.Outcomes.{end-of}
 
--- The closed term `x`, of at most 1,024 words, stands at the front of the working slice, `count` words long.
-pub record Holds (work : List ℕ) (count : ℕ) (x : Term) : Type 0 where
-  pub front : take count work ≡ words x
+-- The words are those of the closed term `x`, which are `count` in number and at most 1,024.
+pub record Spells (ws : List ℕ) (count : ℕ) (x : Term) : Type 0 where
+  pub coded : ws ≡ words x
   pub extent : count ≡ size x
   pub short : size x ≤ longest
   pub closed : Scoped 0 x
+
+-- They stand at the front of the working slice.
+pub record Holds (work : List ℕ) (count : ℕ) (x : Term) : Type 0 where
+  pub front : Spells (take count work) count x
 
 -- One step from `x`: the next state stands at the front where there is one and it fits, else `x` does; behind the room for a
 -- state the slice is as it was.

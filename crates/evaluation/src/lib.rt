@@ -9,7 +9,7 @@ use term::refusal::Reason;
 use term::refusal::Refusal;
 ghost use mathlib.Core.Path.{_≡_};
 ghost use Prim.Native.Nat.{_≤_};
-ghost use lib.ListN.{length};
+ghost use lib.ListN.{length, take};
 ghost use Rattle.calculus.specs.Term.{Term};
 ghost use Rattle.calculus.specs.Words.{Readable, words, longest};
 ghost use Rattle.calculus.specs.Step as calculus;
@@ -60,6 +60,7 @@ pub struct Course {
 fn advance(work: &mut [u16], copied: &mut [u16], count: usize) -> Stepped
     requires { ⌜ (longest ≤ length (now work)) × (length (now copied) ≡ longest) × ((x : Term) × Holds (now work) count x) ⌝ }
     ensures { λ r. ⌜ ((x : Term) → Holds (now (work .entry)) count x → Advances (calculus.step x) (now (work .entry)) count x r (now (work .exit))) ⌝ }
+    ensures { λ r. ⌜ now (copied .exit) ≡ begun (take count (now (work .entry))) (now (copied .entry)) ⌝ }
 {
     copy(&work[..count], copied, 0);
     let stepped = step(&copied[..count], true, &mut work[..1024]);

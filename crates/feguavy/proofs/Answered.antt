@@ -7,7 +7,8 @@ use Rattle.calculus.specs.Words.{longest}
 use Rattle.calculus.specs.Run.{end-number}
 use Rattle.calculus.specs.Outcomes as calculus
 use Rattle.calculus.proofs.Says.{of-ok, of-refused}
-use Rattle.calculus.proofs.Places.{check-within, run-placed}
+use Rattle.calculus.proofs.CheckDemand.{check-numbers}
+use Rattle.calculus.proofs.RunDemand.{run-numbers}
 use Rattle.term.specs.Reasons.{number-of}
 use Rattle.term.specs.declared.refusal.Refusal.{Refusal}
 use Rattle.typing.specs.declared.Checked.{Checked}
@@ -41,10 +42,10 @@ module _ {c : calculus.Checked} (r : Checked) {W O : List ℕ} (e : checked-of r
 
 module _ (ws : List ℕ) (L : ℕ) (W₀ O₀ : List ℕ) (r : Checked) {W O : List ℕ} (e : checked-of r W O ≡ calculus.check ws L W₀ O₀) where
   pub length-within : (n : ℕ) → r ≡ checked.Typed n → n ≤ calculus.largest-limit
-  length-within n h = of-ok (rw (sym (ap (λ x. x .answer) e) ∙ ap check.answer-of h) at (check-within ws L W₀ O₀))
+  length-within n h = of-ok (rw (sym (ap (λ x. x .answer) e) ∙ ap check.answer-of h) at (check-numbers ws L W₀ O₀))
 
   pub untyped-place : (f : Refusal) → r ≡ checked.Refused f → f .place ≤ longest
-  untyped-place f h = of-refused (rw (sym (ap (λ x. x .answer) e) ∙ ap check.answer-of h) at (check-within ws L W₀ O₀))
+  untyped-place f h = of-refused (rw (sym (ap (λ x. x .answer) e) ∙ ap check.answer-of h) at (check-numbers ws L W₀ O₀)) .2
 
 -- A run.
 module _ {c : calculus.Ran} (r : Outcome) {W S : List ℕ} (e : ran-of r W S ≡ c) where
@@ -70,4 +71,4 @@ pub unrun-place : (ws : List ℕ) (budget allowance : ℕ) (W₀ S₀ : List ℕ
     → ran-of r W S ≡ calculus.run ws budget allowance W₀ S₀
     → (f : Refusal) → r .answer ≡ ran.Refused f → f .place ≤ longest
 unrun-place ws budget allowance W₀ S₀ r e f h =
-    of-refused (rw (sym (ap (λ x. x .answer) e) ∙ ap run.answer-of h) at (run-placed ws budget allowance W₀ S₀))
+    of-refused (rw (sym (ap (λ x. x .answer) e) ∙ ap run.answer-of h) at (run-numbers ws budget allowance W₀ S₀)) .2

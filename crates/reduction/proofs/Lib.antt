@@ -18,4 +18,5 @@ pub mod Arrivals
 pub mod Spans
 pub mod Placing
 pub mod Replacing
+pub mod Begun
 pub mod Zeros

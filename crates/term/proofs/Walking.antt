@@ -11,7 +11,7 @@ use lib.ListN.{length, getD, drop}
 use lib.Seq.{drop-cons}
 use Rattle.calculus.specs.Term.{Term, var, star, app, lam, pi, castup, castdown, mu, size}
 use Rattle.calculus.specs.Words.{emit, words, Readable}
-use Rattle.calculus.specs.Answer.{Answer, ok, refused}
+use Rattle.calculus.specs.Answer.{Answer, Reason, ok, refused}
 use Rattle.calculus.specs.Reading.{meaning, binds, read}
 use Rattle.calculus.proofs.ReadBack.{read-sound}
 use Rattle.term.specs.Word.{arity}
@@ -92,9 +92,18 @@ pub span-words : (t : Term) → span (words t) 1 ≡ size t
 unfolding words
 span-words t = span-emit t []
 
+-- What reading accepts is a readable term's words.
 pub reads-term : (ws : List ℕ) → outcome (read ws) ≡ ok tt → (t : Term) × (ws ≡ words t) × Readable t
 reads-term ws h = on (read ws) refl h
   where
     on : (x : Answer Term) → read ws ≡ x → outcome x ≡ ok tt → (t : Term) × (ws ≡ words t) × Readable t
     on (ok t) e h = let s = read-sound ws t e in (t, s .0, s .1)
     on (refused r p) e h = let z : _≡_ {A = ℕ} 0 1 = cc in absurd (omega arith)
+
+-- What it refuses is refused as the calculus reads it.
+pub reads-refusal : (ws : List ℕ) {r : Reason} {p : ℕ} → outcome (read ws) ≡ refused r p → read ws ≡ refused r p
+reads-refusal ws {r} {p} h = on (read ws) h
+  where
+    on : (x : Answer Term) → outcome x ≡ refused r p → x ≡ refused r p
+    on (ok t) h = let z : _≡_ {A = ℕ} 0 1 = cc in absurd (omega arith)
+    on (refused s q) h = cc

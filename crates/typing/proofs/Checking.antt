@@ -4,10 +4,10 @@
 use Prim.Native.Nat.{ℕ, suc, _-_, _≤_}
 use mathlib.Core.List.{List, [], _++_}
 use mathlib.Core.Path.{_≡_, refl, sym, ap, _∙_, subst}
-use native.Mathlib.Nat.{zero-add, mul-le-mul-right}
+use native.Mathlib.Nat.{le-refl, mul-le-mul-right}
 use native.Mathlib.Omega.{arith}
-use lib.ListN.{length, take, drop, replicate, length-replicate, length-append}
-use lib.Seq.{sets, drop-at, take-append-le, length-take-le}
+use lib.ListN.{length, take, drop, length-append}
+use lib.Seq.{drop-at, take-append-le, length-take-le}
 use Rattle.calculus.specs.Term.{Term, size}
 use Rattle.calculus.specs.Answer.{Answer, ok, refused}
 use Rattle.calculus.specs.Words.{words, levels, Readable, deepest}
@@ -22,8 +22,10 @@ use Rattle.calculus.proofs.Inference.{infer-sound, refused-sound}
 use Rattle.term.specs.Reasons.{reason-of}
 use Rattle.term.specs.Subterms.{outcome}
 use Rattle.term.specs.declared.refusal.Refusal.{Refusal}
+use Rattle.term.proofs.Walking.{reads-refusal}
 use Rattle.reduction.specs.declared.copying.Room.{Room}
 use Rattle.reduction.specs.Writing.{Writes}
+use Rattle.reduction.proofs.Begun.{writes-begun, cleared-same}
 use Rattle.typing.specs.declared.Checked.{Checked}
 use Rattle.typing.specs.declared.Checked.the-variants as checked
 use Rattle.typing.specs.declared.inference.Inferred.{Inferred}
@@ -32,7 +34,6 @@ use Rattle.typing.specs.Inference.{Subject, Placed, Roomy, Infers, finds
 use Rattle.typing.specs.Outcomes.{checked-of}
 use Rattle.typing.proofs.Scoping.{inferred-fits}
 use Rattle.typing.proofs.Passing as passing
-use Rattle.typing.proofs.Stored.{sets-between}
 
 -- A refusal that leaves the slices as they were.
 pub refused-out : {ws : List ℕ} {L : ℕ} {W O : List ℕ} {r : Checked} {f : Refusal}
@@ -50,13 +51,9 @@ pub record Admitted (L : ℕ) (W O : List ℕ) : Type 0 where
 -- Reading refuses.
 pub unread-out : (ws : List ℕ) {L : ℕ} {W O : List ℕ} (f : Refusal)
     → Admitted L W O
-    → refused (reason-of (f .reason)) (f .place) ≡ outcome (read ws)
+    → outcome (read ws) ≡ refused (reason-of (f .reason)) (f .place)
     → checked-of (checked.Refused f) W O ≡ check ws L W O
-unread-out ws f A e = refused-out {f = f} refl (unread (A .allowed) (A .room) (A .out) (on (read ws) e))
-  where
-    on : (x : Answer Term) → refused (reason-of (f .reason)) (f .place) ≡ outcome x → x ≡ refused (reason-of (f .reason)) (f .place)
-    on (ok t) e = let z : _≡_ {A = ℕ} 0 1 = cc in absurd (omega arith)
-    on (refused r p) e = sym (cc)
+unread-out ws f A e = refused-out {f = f} refl (unread (A .allowed) (A .room) (A .out) (reads-refusal ws e))
 
 module _ {ws : List ℕ} {L : ℕ} {W O : List ℕ} {t : Term} (A : Admitted L W O) (coded : ws ≡ words t) (readable : Readable t) where
   pub whole : (places : List ℕ) → length places ≡ deepest → Subject [] t ws ws places 0
@@ -108,12 +105,9 @@ module _ {ws : List ℕ} {L : ℕ} {W O : List ℕ} {r : Inferred} {after : List
   long = kept ∙ length-take-le (check-room L) W room
 
   cleared-all : cleared (check-room L) (after ++ drop (check-room L) W) ≡ cleared (check-room L) W
-  unfolding cleared begun
   cleared-all =
-      let zeros = length-replicate {A = ℕ} (check-room L) 0 in
-      ap
-      (λ l. replicate (check-room L) 0 ++ l)
-      (drop-at after (drop (check-room L) W) (length (replicate (check-room L) 0)) (long ∙ sym zeros) ∙ ap (λ n. drop n W) (sym zeros))
+      cleared-same (check-room L) (check-room L) (after ++ drop (check-room L) W) W (le-refl (check-room L))
+      (drop-at after (drop (check-room L) W) (check-room L) long)
 
   pub untyped-out : {f : Refusal} {work′ : List ℕ}
       → r ≡ inferred.Refused f
@@ -144,17 +138,14 @@ module _ {ws : List ℕ} {L : ℕ} {W O : List ℕ} {r : Inferred} {after : List
         → Writes (take m (after ++ drop (check-room L) W)) O 0 o output′
         → work′ ≡ cleared (check-room L) (after ++ drop (check-room L) W)
         → checked-of (checked.Typed m) work′ output′ ≡ check ws L W O
-    unfolding begun
     typed-out {work′} {output′} w e =
         let d = infer-sound 0 env-empty (readable .closed) (subst (λ k. infer L [] k term ≡ ok τ) outermost found) in
         let fits : size τ ≤ length O = omega (arith, out, type-short, type-long) in
         let source : take m (after ++ drop (check-room L) W) ≡ words τ =
         take-append-le m after (drop (check-room L) W) (omega (arith, type-short, long)) ∙ lies in
         let many = ap length source ∙ words-length τ in
-        let stored : output′ ≡ sets O 0 (words τ) = w .fits (omega arith) .1 ∙ ap (sets O 0) source in
-        let begins : sets O 0 (words τ) ≡ begun (words τ) O =
-        sets-between O (words τ) 0 (omega (arith, words-length τ)) ∙ ap (λ k. words τ ++ drop k O) (zero-add (length (words τ))) in
+        let begins : output′ ≡ begun (words τ) O = writes-begun w (omega arith) ∙ ap (λ front. begun front O) source in
         ap (λ k. checked-of (checked.Typed k) work′ output′) type-long
         ∙ ap (λ l. checked-of (checked.Typed (size τ)) l output′) (e ∙ cleared-all)
-        ∙ ap (checked-of (checked.Typed (size τ)) (cleared (check-room L) W)) (stored ∙ begins)
+        ∙ ap (checked-of (checked.Typed (size τ)) (cleared (check-room L) W)) begins
         ∙ sym (check-answer ws L W O (typed allowed room out (coded, readable) d))

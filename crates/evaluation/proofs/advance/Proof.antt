@@ -13,10 +13,12 @@ use borrow.Author.Needs.{needs}
 use Rattle.calculus.specs.Term.{Term}
 use Rattle.calculus.specs.Words.{longest}
 use Rattle.calculus.specs.Step as calculus
+use Rattle.calculus.specs.Outcomes.{begun}
 use Rattle.reduction.specs.Stepping.{Steps}
 use Rattle.reduction.proofs.stepping.Stepped.{the-type}
+use Rattle.reduction.proofs.Begun.{writes-begun}
 use Rattle.evaluation.specs.Courses.{Holds}
-use Rattle.evaluation.proofs.States.{spells-length, spells-codes, held-spells, copied-held, copied-behind, advanced, restored}
+use Rattle.evaluation.proofs.States.{spells-length, spells-codes, copied-held, copied-behind, advanced, restored}
 use Rattle.evaluation.proofs.advance.Statement.{statement}
 use Rattle.evaluation.proofs.advance.Tie as tie
 
@@ -24,7 +26,17 @@ use Rattle.evaluation.proofs.advance.Tie as tie
 copy-holds : (c : tie.After-copy) (x : Term)
     → Holds (now (c .before .before .before .before .before .args .work)) (c .before .before .before .before .before .args .count) x
     → Holds (c .copy .last .1 .0) (c .before .before .before .before .before .args .count) x
-copy-holds c x h = copied-held (c .copy .ensures) (held-spells h) (omega arith)
+copy-holds c x h = copied-held (c .copy .ensures) (h .front) (omega arith)
+
+-- Behind the state it is as it was.
+copy-begun : (c : tie.After-copy)
+    → c .copy .last .1 .0
+    ≡ begun
+    (take (c .before .before .before .before .before .args .count) (now (c .before .before .before .before .before .args .work)))
+    (now (c .before .before .before .before .before .args .copied))
+copy-begun c =
+    let (x, h) = c .before .before .before .before .before .pre .2 in
+    writes-begun (c .copy .ensures) (omega (arith, spells-length (h .front), h .front .extent, h .front .short))
 
 -- The step is the state's, within the room for a state.
 room : (c : tie.After-step) → length (c .step .last .1 .1 .0) ≡ longest
@@ -38,12 +50,12 @@ steps : (c : tie.After-step) (x : Term)
     → Steps (calculus.step x)
     (take longest (now (c .before .before .before .before .before .before .before .before .before .before .args .work)))
     (c .step .result) (c .step .last .1 .1 .0)
-steps c x h = c .step .ensures x (copy-holds (c .before .before .before .before .before) x h .front)
+steps c x h = c .step .ensures x (copy-holds (c .before .before .before .before .before) x h .front .coded)
 
 slice-aggregate-step : tie.Need-slice-aggregate-step
 slice-aggregate-step c =
     let (x, h) = c .before .before .before .before .before .before .before .before .pre .2 in
-    sym (spells-length (held-spells (copy-holds (c .before .before .before) x h)))
+    sym (spells-length (copy-holds (c .before .before .before) x h .front))
 
 slice-aggregate-step-2 : tie.Need-slice-aggregate-step-2
 slice-aggregate-step-2 c =
@@ -53,40 +65,47 @@ slice-aggregate-step-2 c =
 step-requires : tie.Need-step-requires
 step-requires c κs =
     let (x, h) = c .before .before .before .before .before .before .before .before .before .pre .2 in
-    spells-codes (held-spells (copy-holds (c .before .before .before .before) x h))
+    spells-codes (copy-holds (c .before .before .before .before) x h .front)
 
 slice-aggregate-copy-2 : tie.Need-slice-aggregate-copy-2
 slice-aggregate-copy-2 c =
     let copy = c .before .before .before .before .before .before .before .before .before .before in
     let (x, h) = copy .before .before .before .before .before .pre .2 in
-    sym (spells-length (held-spells (copy-holds copy x h)))
+    sym (spells-length (copy-holds copy x h .front))
 
 returns : tie.Need-returns
-returns c x h =
+returns c =
     let step = c .before .before .before .before .before .before .before .before .before in
     let copy = step .before .before .before .before .before in
     let start = copy .before .before .before .before .before in
     let again = c .before .before .copy2 in
-    let back = held-spells (copy-holds copy x h) in
     let long : longest ≤ length (step .step .last .1 .1 .0 ++ drop longest (now (start .args .work))) =
     omega (arith, room step, length-append (step .step .last .1 .1 .0) (drop longest (now (start .args .work))))
-    in
-    restored (start .pre .0) h (step .step .last .1 .1 .0) (room step) (steps step x h)
-    (c .before .before .before .before .before .enum-told .given .1) (copied-held (again .ensures) back long)
-    (copied-behind (again .ensures) back long)
+    in (
+      λ x h.
+          let back = copy-holds copy x h .front in
+          restored (start .pre .0) h (step .step .last .1 .1 .0) (room step) (steps step x h)
+          (c .before .before .before .before .before .enum-told .given .1) (copied-held (again .ensures) back long)
+          (copied-behind (again .ensures) back long),
+      copy-begun copy,
+    )
 
 returns-2 : tie.Need-returns-2
-returns-2 c x h =
+returns-2 c =
     let step = c .before .before .before in
-    let start = step .before .before .before .before .before .before .before .before .before .before in
-    advanced (start .pre .0) h (step .step .last .1 .1 .0) (room step) (steps step x h) λ e.
-    miss (0 ∷ 1 ∷ 2 ∷ []) 3 tt (subst (λ r. OneOf (0 ∷ 1 ∷ 2 ∷ []) (tagOf the-type r)) e (c .match .keys2))
+    let copy = step .before .before .before .before .before in
+    let start = copy .before .before .before .before .before in (
+      λ x h.
+          advanced (start .pre .0) h (step .step .last .1 .1 .0) (room step) (steps step x h) λ e.
+          miss (0 ∷ 1 ∷ 2 ∷ []) 3 tt (subst (λ r. OneOf (0 ∷ 1 ∷ 2 ∷ []) (tagOf the-type r)) e (c .match .keys2)),
+      copy-begun copy,
+    )
 
 pub advance-spec : {M : Type 1} → statement M
 advance-spec =
     tie.close
     (tie.spec
-    (λ c. search needs) (λ c. sym (spells-length (held-spells (c .before .before .before .pre .2 .1)))) (λ c κs. search needs)
+    (λ c. search needs) (λ c. sym (spells-length (c .before .before .before .pre .2 .1 .front))) (λ c κs. search needs)
     (λ c. search needs) slice-aggregate-step (λ c. search needs) slice-aggregate-step-2 step-requires (λ c. search needs)
     (λ c. search needs) slice-aggregate-copy-2 (λ c κs. search needs) (λ c. search needs) (λ c. search needs) returns
     (λ c. search needs) (λ c. search needs) returns-2)

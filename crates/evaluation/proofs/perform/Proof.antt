@@ -51,7 +51,7 @@ module _ (c : tie.After-advance Inv-loop μ-loop) (t : Term)
   advances : Advances
       (calculus.step (reached .state)) (c .before .before .before .before .loop .work)
       (c .before .before .before .before .loop .count) (reached .state) (c .advance .result) (c .advance .last .0)
-  advances = c .advance .ensures (reached .state) (reached .holds)
+  advances = c .advance .ensures .0 (reached .state) (reached .holds)
 
   stops : {s : Stepped} {E : End}
       → Stops s E

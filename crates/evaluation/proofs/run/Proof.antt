@@ -14,8 +14,9 @@ use Rattle.calculus.specs.Run.{run-from}
 use Rattle.calculus.specs.Outcomes.{run-room}
 use Rattle.calculus.specs.Runs.{work-refused, state-refused, unread}
 use Rattle.term.specs.Subterms.{reading-of}
+use Rattle.term.proofs.Walking.{reads-term, reads-refusal}
 use Rattle.evaluation.specs.Courses.{Performs}
-use Rattle.evaluation.proofs.Answers.{readable, unreadable, meets-runs, steps-within, meets-course}
+use Rattle.evaluation.proofs.Answers.{meets-runs, steps-within, meets-course}
 use Rattle.evaluation.proofs.run.Statement.{statement}
 use Rattle.evaluation.proofs.run.Tie as tie
 
@@ -25,8 +26,8 @@ term-read : (c : tie.After-enum-told)
     × (now (c .before .before .before .before .before .before .before .before .args .term) ≡ words t)
     × Readable t
 term-read c =
-    readable (now (c .before .before .before .before .before .before .before .before .args .term))
-    (sym (ap reading-of (c .enum-told .given .1)) ∙ c .before .before .read .ensures)
+    reads-term (now (c .before .before .before .before .before .before .before .before .args .term))
+    (sym (c .before .before .read .ensures) ∙ ap reading-of (c .enum-told .given .1))
 
 -- The grant.
 granted : (c : tie.Joined3)
@@ -71,9 +72,8 @@ returns-3 : tie.Need-returns-3
 returns-3 c =
     let read = c .before .before .before in
     let a = read .before .before .before .before .before .before .args in
-    let told = sym (ap reading-of (c .before .refusal .given .1)) ∙ read .read .ensures in
-    let e = unreadable (now (a .term)) (c .before .refusal .given .0 .0) told in
-    let refusal = unread (read .before .before .if1 .left) (read .before .if2 .left) e in
+    let told = sym (read .read .ensures) ∙ ap reading-of (c .before .refusal .given .1) in
+    let refusal = unread (read .before .before .if1 .left) (read .before .if2 .left) (reads-refusal (now (a .term)) told) in
     meets-runs (now (a .term)) (a .budget) (a .desk .allowance) (now (a .work)) (now (a .state)) refusal
 
 perform-requires : tie.Need-perform-requires

@@ -4,21 +4,21 @@ use mathlib.Core.Path.{refl}
 use native.Mathlib.Omega.{arith}
 use lib.ListN.{length-take}
 use borrow.Author.Needs.{needs}
-use Rattle.evaluation.proofs.States.{held-spells, copied-begun}
+use Rattle.evaluation.proofs.States.{copied-begun}
 use Rattle.evaluation.proofs.settle.Statement.{statement}
 use Rattle.evaluation.proofs.settle.Tie as tie
 
 slice-aggregate-copy : tie.Need-slice-aggregate-copy
 slice-aggregate-copy c =
     let h = c .before .before .before .pre .3 .1 in
-    simp length-take (omega (arith, h .extent, h .short))
+    simp length-take (omega (arith, h .front .extent, h .front .short))
 
 returns : tie.Need-returns
 returns c x h =
     let copy = c .before .before .before .before .before .before .before in
     rw (
       c .before .before .before .clear .ensures,
-      copied-begun (copy .copy .ensures) (held-spells h) (copy .before .before .before .before .before .pre .1),
+      copied-begun (copy .copy .ensures) (h .front) (copy .before .before .before .before .before .pre .1),
     )
     refl
 

@@ -40,7 +40,7 @@ returns-5 c =
     let r = c .before .before .before in
     let f = c .before .refusal .given in
     let ws = r .before .before .before .before .before .before .before .before .args .term .now in
-    unread-out ws (f .0 .0) (admitted (r .before)) (sym (ap reading-of (f .1)) ∙ r .read .ensures)
+    unread-out ws (f .0 .0) (admitted (r .before)) (sym (r .read .ensures) ∙ ap reading-of (f .1))
 
 -- Past reading.
 term-read : (c : tie.After-enum-told)

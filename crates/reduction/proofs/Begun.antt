@@ -8,10 +8,15 @@ use native.Mathlib.Omega.{arith}
 use lib.ListN.{length, take, drop, replicate, length-replicate}
 use lib.Seq.{sets, sets-eq, take-append-seam, drop-append-add, drop-drop}
 use Rattle.calculus.specs.Outcomes.{begun, cleared}
+use Rattle.reduction.specs.declared.copying.Room.{Room}
+use Rattle.reduction.specs.Writing.{Writes}
 
 pub sets-begun : (slice e : List ℕ) → length e ≤ length slice → sets slice 0 e ≡ begun e slice
 unfolding begun
 sets-begun slice e h = sets-eq e slice 0 (omega arith) ∙ ap (λ n. e ++ drop n slice) (zero-add (length e))
+
+pub writes-begun : {e slice : List ℕ} {r : Room} {after : List ℕ} → Writes e slice 0 r after → length e ≤ length slice → after ≡ begun e slice
+writes-begun {e} {slice} w h = w .fits (omega arith) .1 ∙ sets-begun slice e h
 
 pub take-begun : (slice e : List ℕ) → take (length e) (begun e slice) ≡ e
 unfolding begun
