@@ -2,7 +2,7 @@
 -- it there. A step writes only into the room for a state, so the slice behind it stays; where the next state does not fit, the
 -- room is left broken, and storing the copy again brings the state back.
 use Prim.Native.Nat.{ℕ, _+_, _≤_, _<_}
-use mathlib.Core.Bool.{true}
+use mathlib.Core.Bool.{true, true≢false}
 use mathlib.Core.List.{List, _++_}
 use mathlib.Core.Path.{_≡_, refl, sym, _∙_, ap, subst}
 use native.Mathlib.Omega.{arith}
@@ -134,10 +134,10 @@ module _ {work : List ℕ} {count : ℕ} {x : Term}
   restored {r} {again} s full held back = on (calculus.step x) refl s
     where
       on : (n : calculus.Next) → calculus.step x ≡ n → Steps n (take longest work) r room → Advances n work count x r again
-      on calculus.value e s = let p = s .0 in let z : _≡_ {A = ℕ} 0 1 = cc in absurd (omega arith)
-      on calculus.stuck e s = let p = s .0 in let z : _≡_ {A = ℕ} 0 1 = cc in absurd (omega arith)
+      on calculus.value e s = absurd (true≢false (cc (s .0, full)))
+      on calculus.stuck e s = absurd (true≢false (cc (s .0, full)))
       on (calculus.next y) e s = (
-        λ l. let p = arrived (next-step e) s l .0 in let z : _≡_ {A = ℕ} 0 1 = cc in absurd (omega arith),
+        λ l. absurd (true≢false (cc (arrived (next-step e) s l .0, full))),
         λ l. (full, held),
         back ∙ behind,
       )
