@@ -1,8 +1,11 @@
-//! A comparison with any program that speaks the line protocol of docs/FORMAT.md: FEGUAVY_COMPARE is the program's path, and
-//! FEGUAVY_REQUESTS a file of request lines. Without them there is nothing to compare.
+//! The stored requests of `batch`, answered as stored. Where FEGUAVY_COMPARE is the path of a program that speaks the line protocol
+//! of docs/FORMAT.md, and FEGUAVY_REQUESTS that of a file of request lines, those lines, answered as that program does.
 
 use feguavy::{part, Buffers, Checked, LARGEST_LIMIT};
+use std::env::var_os;
 use std::fmt::Write;
+use std::fs::{read, File};
+use std::path::Path;
 use std::process::{Command, Stdio};
 
 fn put_words(answer: &mut String, words: &[u16]) {
@@ -45,28 +48,34 @@ fn answer(line: &str, buffers: &mut Buffers, work: &mut [u16], output: &mut [u16
     Some(text)
 }
 
-#[test]
-fn with_another_program() {
-    let (Some(program), Some(requests)) = (std::env::var_os("FEGUAVY_COMPARE"), std::env::var_os("FEGUAVY_REQUESTS")) else {
-        return;
+/// The request lines, and their answers.
+fn lines_and_answers() -> (Vec<u8>, Vec<u8>) {
+    let stored = Path::new(env!("CARGO_MANIFEST_DIR")).join("../crates/batch");
+    let (Some(program), Some(requests)) = (var_os("FEGUAVY_COMPARE"), var_os("FEGUAVY_REQUESTS")) else {
+        return (read(stored.join("stdin")).unwrap(), read(stored.join("stdout")).unwrap());
     };
-    let other = Command::new(program)
-        .stdin(Stdio::from(std::fs::File::open(&requests).unwrap()))
-        .stderr(Stdio::inherit())
-        .output()
-        .unwrap();
-    let answers = String::from_utf8(other.stdout).unwrap();
+    let input = Stdio::from(File::open(&requests).unwrap());
+    let other = Command::new(program).stdin(input).stderr(Stdio::inherit()).output().unwrap();
+    (read(requests).unwrap(), other.stdout)
+}
+
+#[test]
+fn requests() {
+    let (lines, answers) = lines_and_answers();
+    let (lines, answers) = (String::from_utf8_lossy(&lines), String::from_utf8_lossy(&answers));
+    assert_eq!(lines.lines().count(), answers.lines().count());
     let mut buffers = Buffers::for_limit(LARGEST_LIMIT);
     let mut work = vec![0; feguavy::check_work(LARGEST_LIMIT)];
     let mut output = vec![0; LARGEST_LIMIT as usize];
-    let text = std::fs::read_to_string(&requests).unwrap();
+    // what is no request is for `batch` to tell
+    let requests = lines.lines().zip(answers.lines()).filter(|(_, theirs)| *theirs != "error");
     let mut compared = 0;
-    for (line, theirs) in text.lines().zip(answers.lines()) {
+    for (line, theirs) in requests {
         if let Some(ours) = answer(line, &mut buffers, &mut work, &mut output) {
             assert_eq!(ours, theirs, "{line}");
             compared += 1;
         }
     }
     println!("{compared} requests compared");
-    assert!(compared > 0);
+    assert!(compared > 1000);
 }

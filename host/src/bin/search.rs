@@ -1,6 +1,7 @@
 //! A search for slow inputs: `search SECONDS [SEED] < LINES`. Request lines are mutated and recombined; the slowest check and the
 //! slowest step found are printed as request lines with their nanoseconds, slowest first.
 
+use feguavy::{check_work, LARGEST_LIMIT, LONGEST};
 use std::hint::black_box;
 use std::io::BufRead;
 use std::time::{Duration, Instant};
@@ -73,7 +74,7 @@ fn main() {
     let mut arguments = std::env::args().skip(1);
     let seconds = arguments.next().and_then(|s| s.parse().ok()).unwrap_or(60);
     let mut numbers = Numbers(arguments.next().and_then(|s| s.parse().ok()).unwrap_or(88172645463325252));
-    let mut bench = Bench { work: vec![0; 512 * 1024], result: vec![0; 1024] };
+    let mut bench = Bench { work: vec![0; check_work(LARGEST_LIMIT)], result: vec![0; LONGEST] };
     let lines: Vec<String> = std::io::stdin().lock().lines().map(|l| l.unwrap()).collect();
     let mut terms: Vec<Vec<u16>> = lines
         .iter()
@@ -93,7 +94,7 @@ fn main() {
         };
         let other = &terms[numbers.below(terms.len())];
         let term = mutated(&base, other, &mut numbers);
-        if term.is_empty() || term.len() > 1024 {
+        if term.is_empty() || term.len() > LONGEST {
             continue;
         }
         let limit = [1024, 1024, 1023, 512][numbers.below(4)];

@@ -70,7 +70,11 @@ fn main() {
                 let ran = feguavy::run(&c.words, c.first, &mut work, &mut result, c.second);
                 taken = ran.answer.map_or(0, |e| e.steps);
             });
-            if taken == 0 { 0.0 } else { ns / taken as f64 }
+            if taken == 0 {
+                0.0
+            } else {
+                ns / taken as f64
+            }
         });
         let slowest = slowest.fold(0.0, f64::max);
         println!("run {} {:.1} {} {:.1}, slowest step {:.1}", calls, ns / calls as f64, steps, ns / steps.max(1) as f64, slowest);
