@@ -67,6 +67,25 @@ star-typed L Γ p e = do
   require not-star p (same σ star)
   ok star
 
+-- What is asked of the arguments of a function that types nodes `c`, with one part and with two: that they stand for such a node in
+-- some context, and that there is room.
+abbrev pub Asks : (Term → Term) → List ℕ → List ℕ → List ℕ → ℕ → List ℕ → ℕ → ℕ → Type 0
+Asks c term sub places depth work top limit = (Γ : Context) × (e : Term) × Subject Γ (c e) term sub places depth × Roomy (c e) work top limit
+
+abbrev pub Asks₂ : (Term → Term → Term) → List ℕ → List ℕ → List ℕ → ℕ → List ℕ → ℕ → ℕ → Type 0
+Asks₂ c term sub places depth work top limit =
+    (Γ : Context) × (a : Term) × (e : Term) × Subject Γ (c a e) term sub places depth × Roomy (c a e) work top limit
+
+-- What it then tells: whatever node and context they stand for, the answer is that of `judge` at the node's place.
+abbrev pub Tells : (ℕ → Context → ℕ → Term → Answer Term) → (Term → Term) → List ℕ → List ℕ → List ℕ → ℕ → List ℕ → ℕ → ℕ
+    → Inferred → List ℕ → List ℕ → Type 0
+Tells judge c term sub places depth work top limit r after places′ = (Γ : Context) (e : Term) → Subject Γ (c e) term sub places depth
+    → Infers (judge limit Γ (length term - length sub) (c e)) (c e) places depth work top r after places′
+
+abbrev pub Tells₂ : (Term → Term → Term) → List ℕ → List ℕ → List ℕ → ℕ → List ℕ → ℕ → ℕ → Inferred → List ℕ → List ℕ → Type 0
+Tells₂ c term sub places depth work top limit r after places′ = (Γ : Context) (a e : Term) → Subject Γ (c a e) term sub places depth
+    → Infers (infer limit Γ (length term - length sub) (c a e)) (c a e) places depth work top r after places′
+
 -- The annotation `a` stands at `from`; all but its first `index` + 1 binders are around it.
 pub record Annotation (a : Term) (index : ℕ) (term : List ℕ) (from : ℕ) : Type 0 where
   pub rest : List ℕ

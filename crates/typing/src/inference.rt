@@ -14,13 +14,12 @@ use term::walk::span;
 use term::word::Meaning;
 use term::word::classify;
 ghost use mathlib.Core.Path.{_≡_};
-ghost use Prim.Native.Nat.{_+_, _-_, _≤_};
+ghost use Prim.Native.Nat.{_+_, _≤_};
 ghost use lib.ListN.{length};
 ghost use Rattle.calculus.specs.Term.{Term, app, castdown, castup, lam, mu, pi};
 ghost use Rattle.calculus.specs.Words.{longest};
-ghost use Rattle.calculus.specs.Rules.{Context};
 ghost use Rattle.calculus.specs.Infer.{infer};
-ghost use Rattle.typing.specs.Inference.{Annotation, Infers, Raises, Roomy, Subject, star-typed};
+ghost use Rattle.typing.specs.Inference.{Annotation, Asks, Asks₂, Raises, Tells, Tells₂, star-typed};
 
 // Typed with the length of the subterm and of its type, or refused.
 pub enum Inferred {
@@ -68,8 +67,8 @@ fn application(
     top: usize,
     limit: usize,
 ) -> Inferred
-    requires { ⌜ ((Γ : Context) × (f : Term) × (u : Term) × Subject Γ (app f u) (now term) (now sub) (now context) depth × Roomy (app f u) (now work) top limit) ⌝ }
-    ensures { λ r. ⌜ ((Γ : Context) (f u : Term) → Subject Γ (app f u) (now (term .entry)) (now (sub .entry)) (now (context .entry)) depth → Infers (infer limit Γ (length (now (term .entry)) - length (now (sub .entry))) (app f u)) (app f u) (now (context .entry)) depth (now (work .entry)) top r (now (work .exit)) (now (context .exit))) ⌝ }
+    requires { ⌜ Asks₂ app (now term) (now sub) (now context) depth (now work) top limit ⌝ }
+    ensures { λ r. ⌜ Tells₂ app (now (term .entry)) (now (sub .entry)) (now (context .entry)) depth (now (work .entry)) top limit r (now (work .exit)) (now (context .exit)) ⌝ }
 {
     let place = term.len() - sub.len();
     let function = infer(term, &sub[1..], context, depth, work, top, limit);
@@ -118,8 +117,8 @@ fn star_part(
     top: usize,
     limit: usize,
 ) -> Inferred
-    requires { ⌜ ((Γ : Context) × (e : Term) × Subject Γ e (now term) (now sub) (now context) depth × Roomy e (now work) top limit) ⌝ }
-    ensures { λ r. ⌜ ((Γ : Context) (e : Term) → Subject Γ e (now (term .entry)) (now (sub .entry)) (now (context .entry)) depth → Infers (star-typed limit Γ (length (now (term .entry)) - length (now (sub .entry))) e) e (now (context .entry)) depth (now (work .entry)) top r (now (work .exit)) (now (context .exit))) ⌝ }
+    requires { ⌜ Asks (λ e. e) (now term) (now sub) (now context) depth (now work) top limit ⌝ }
+    ensures { λ r. ⌜ Tells star-typed (λ e. e) (now (term .entry)) (now (sub .entry)) (now (context .entry)) depth (now (work .entry)) top limit r (now (work .exit)) (now (context .exit)) ⌝ }
 {
     let part = infer(term, sub, context, depth, work, top, limit);
     let Inferred::Typed(_, _) = part else {
@@ -142,8 +141,8 @@ fn abstraction(
     top: usize,
     limit: usize,
 ) -> Inferred
-    requires { ⌜ ((Γ : Context) × (a : Term) × (e : Term) × Subject Γ (lam a e) (now term) (now sub) (now context) depth × Roomy (lam a e) (now work) top limit) ⌝ }
-    ensures { λ r. ⌜ ((Γ : Context) (a e : Term) → Subject Γ (lam a e) (now (term .entry)) (now (sub .entry)) (now (context .entry)) depth → Infers (infer limit Γ (length (now (term .entry)) - length (now (sub .entry))) (lam a e)) (lam a e) (now (context .entry)) depth (now (work .entry)) top r (now (work .exit)) (now (context .exit))) ⌝ }
+    requires { ⌜ Asks₂ lam (now term) (now sub) (now context) depth (now work) top limit ⌝ }
+    ensures { λ r. ⌜ Tells₂ lam (now (term .entry)) (now (sub .entry)) (now (context .entry)) depth (now (work .entry)) top limit r (now (work .exit)) (now (context .exit)) ⌝ }
 {
     let place = term.len() - sub.len();
     let annotation = star_part(term, &sub[1..], context, depth, work, top, limit);
@@ -183,8 +182,8 @@ fn product(
     top: usize,
     limit: usize,
 ) -> Inferred
-    requires { ⌜ ((Γ : Context) × (a : Term) × (b : Term) × Subject Γ (pi a b) (now term) (now sub) (now context) depth × Roomy (pi a b) (now work) top limit) ⌝ }
-    ensures { λ r. ⌜ ((Γ : Context) (a b : Term) → Subject Γ (pi a b) (now (term .entry)) (now (sub .entry)) (now (context .entry)) depth → Infers (infer limit Γ (length (now (term .entry)) - length (now (sub .entry))) (pi a b)) (pi a b) (now (context .entry)) depth (now (work .entry)) top r (now (work .exit)) (now (context .exit))) ⌝ }
+    requires { ⌜ Asks₂ pi (now term) (now sub) (now context) depth (now work) top limit ⌝ }
+    ensures { λ r. ⌜ Tells₂ pi (now (term .entry)) (now (sub .entry)) (now (context .entry)) depth (now (work .entry)) top limit r (now (work .exit)) (now (context .exit)) ⌝ }
 {
     let place = term.len() - sub.len();
     let domain = star_part(term, &sub[1..], context, depth, work, top, limit);
@@ -211,8 +210,8 @@ fn cast_up(
     top: usize,
     limit: usize,
 ) -> Inferred
-    requires { ⌜ ((Γ : Context) × (a : Term) × (e : Term) × Subject Γ (castup a e) (now term) (now sub) (now context) depth × Roomy (castup a e) (now work) top limit) ⌝ }
-    ensures { λ r. ⌜ ((Γ : Context) (a e : Term) → Subject Γ (castup a e) (now (term .entry)) (now (sub .entry)) (now (context .entry)) depth → Infers (infer limit Γ (length (now (term .entry)) - length (now (sub .entry))) (castup a e)) (castup a e) (now (context .entry)) depth (now (work .entry)) top r (now (work .exit)) (now (context .exit))) ⌝ }
+    requires { ⌜ Asks₂ castup (now term) (now sub) (now context) depth (now work) top limit ⌝ }
+    ensures { λ r. ⌜ Tells₂ castup (now (term .entry)) (now (sub .entry)) (now (context .entry)) depth (now (work .entry)) top limit r (now (work .exit)) (now (context .exit)) ⌝ }
 {
     let place = term.len() - sub.len();
     let annotation = star_part(term, &sub[1..], context, depth, work, top, limit);
@@ -257,8 +256,8 @@ fn cast_down(
     top: usize,
     limit: usize,
 ) -> Inferred
-    requires { ⌜ ((Γ : Context) × (e : Term) × Subject Γ (castdown e) (now term) (now sub) (now context) depth × Roomy (castdown e) (now work) top limit) ⌝ }
-    ensures { λ r. ⌜ ((Γ : Context) (e : Term) → Subject Γ (castdown e) (now (term .entry)) (now (sub .entry)) (now (context .entry)) depth → Infers (infer limit Γ (length (now (term .entry)) - length (now (sub .entry))) (castdown e)) (castdown e) (now (context .entry)) depth (now (work .entry)) top r (now (work .exit)) (now (context .exit))) ⌝ }
+    requires { ⌜ Asks castdown (now term) (now sub) (now context) depth (now work) top limit ⌝ }
+    ensures { λ r. ⌜ Tells infer castdown (now (term .entry)) (now (sub .entry)) (now (context .entry)) depth (now (work .entry)) top limit r (now (work .exit)) (now (context .exit)) ⌝ }
 {
     let place = term.len() - sub.len();
     let body = infer(term, &sub[1..], context, depth, work, top, limit);
@@ -282,8 +281,8 @@ fn recursion(
     top: usize,
     limit: usize,
 ) -> Inferred
-    requires { ⌜ ((Γ : Context) × (a : Term) × (e : Term) × Subject Γ (mu a e) (now term) (now sub) (now context) depth × Roomy (mu a e) (now work) top limit) ⌝ }
-    ensures { λ r. ⌜ ((Γ : Context) (a e : Term) → Subject Γ (mu a e) (now (term .entry)) (now (sub .entry)) (now (context .entry)) depth → Infers (infer limit Γ (length (now (term .entry)) - length (now (sub .entry))) (mu a e)) (mu a e) (now (context .entry)) depth (now (work .entry)) top r (now (work .exit)) (now (context .exit))) ⌝ }
+    requires { ⌜ Asks₂ mu (now term) (now sub) (now context) depth (now work) top limit ⌝ }
+    ensures { λ r. ⌜ Tells₂ mu (now (term .entry)) (now (sub .entry)) (now (context .entry)) depth (now (work .entry)) top limit r (now (work .exit)) (now (context .exit)) ⌝ }
 {
     let place = term.len() - sub.len();
     let annotation = star_part(term, &sub[1..], context, depth, work, top, limit);
@@ -332,8 +331,8 @@ pub fn infer(
     top: usize,
     limit: usize,
 ) -> Inferred
-    requires { ⌜ ((Γ : Context) × (e : Term) × Subject Γ e (now term) (now sub) (now context) depth × Roomy e (now work) top limit) ⌝ }
-    ensures { λ r. ⌜ ((Γ : Context) (e : Term) → Subject Γ e (now (term .entry)) (now (sub .entry)) (now (context .entry)) depth → Infers (infer limit Γ (length (now (term .entry)) - length (now (sub .entry))) e) e (now (context .entry)) depth (now (work .entry)) top r (now (work .exit)) (now (context .exit))) ⌝ }
+    requires { ⌜ Asks (λ e. e) (now term) (now sub) (now context) depth (now work) top limit ⌝ }
+    ensures { λ r. ⌜ Tells infer (λ e. e) (now (term .entry)) (now (sub .entry)) (now (context .entry)) depth (now (work .entry)) top limit r (now (work .exit)) (now (context .exit)) ⌝ }
 {
     let place = term.len() - sub.len();
     match classify(sub[0]) {
