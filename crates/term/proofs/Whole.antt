@@ -1,5 +1,5 @@
--- Reading a whole list answers what skimming it for one subterm answers, but that words left over are refused: scanning passes the same
--- words by the same tests, and makes terms besides.
+-- Reading a whole list answers what skimming it for one subterm answers, but that words left over are refused: scanning passes
+-- the same words by the same tests, and makes terms besides.
 use Prim.Native.Nat.{ℕ, suc, _≤_, _<_}
 use mathlib.Core.Bool.{cond}
 use mathlib.Core.List.{List, [], _∷_, _++_, map}

@@ -1,5 +1,5 @@
--- What the words of each range mean, and how many parts follow them: the table of the calculus has a row for each word below 7, the
--- words from 16 to 2,047 are variables, and every other word means nothing. A word from 7 on has no parts, whatever it means.
+-- What the words of each range mean, and how many parts follow them: the table of the calculus has a row for each word below 7,
+-- the words from 16 to 2,047 are variables, and every other word means nothing. A word from 7 on has no parts, whatever it means.
 use Prim.Native.Nat.{ℕ, zero, suc, _-_, _≤_, _<_}
 use mathlib.Core.Bool.{Bool, true, false, cond}
 use mathlib.Core.List.{List, [], _∷_}
@@ -38,14 +38,23 @@ row (suc (suc (suc (suc (suc zero))))) h = refl
 row (suc (suc (suc (suc (suc (suc zero)))))) h = refl
 row (suc (suc (suc (suc (suc (suc (suc w))))))) h = absurd (omega arith)
 
-pub no-parts : (w : ℕ) → 7 ≤ w → arity w ≡ 0
-unfolding arity meaning binds
-no-parts w low = rw (List·getD-eq-default table nothing low) (either (ltb w 16) (ltb w 2048))
+-- From 7 on a word is a variable or means nothing: what holds of both holds of what the word means.
+pub from-seven : (P : Meaning → Type 0) (w : ℕ) → 7 ≤ w → P (a-variable (w - 16)) → P nothing → P (meaning w)
+unfolding meaning
+from-seven P w low of-variable of-nothing = rw (List·getD-eq-default table nothing low) (either (ltb w 16) (ltb w 2048))
   where
-    either : (b c : Bool) → length (binds (cond b nothing (cond c (a-variable (w - 16)) nothing))) ≡ 0
-    either true c = refl
-    either false true = refl
-    either false false = refl
+    either : (b c : Bool) → P (cond b nothing (cond c (a-variable (w - 16)) nothing))
+    either true c = of-nothing
+    either false true = of-variable
+    either false false = of-nothing
+
+pub no-binds : (w : ℕ) → 7 ≤ w → binds (meaning w) ≡ []
+unfolding binds
+no-binds w low = from-seven (λ m. binds m ≡ []) w low refl refl
+
+pub no-parts : (w : ℕ) → 7 ≤ w → arity w ≡ 0
+unfolding arity
+no-parts w low = rw (no-binds w low) refl
 
 pub two-at-most : (w : ℕ) → arity w ≤ 2
 unfolding arity binds
