@@ -1,5 +1,5 @@
--- The next state is written in order: what stands before the redex, what it steps to, what stands behind. The last call that writes
--- gives the answer for all of it; where a call before it lacks room, so does the whole.
+-- The next state is written in order: what stands before the redex, what it steps to, what stands behind. The last call that
+-- writes gives the answer for all of it; where a call before it lacks room, so does the whole.
 use Prim.Native.Nat.{ℕ, _+_, _-_, _≤_}
 use mathlib.Core.List.{List, _++_}
 use mathlib.Core.Path.{_≡_, refl, sym, ap, _∙_, subst}

@@ -1,5 +1,6 @@
--- S_BETA and S_MU put a term in for the outermost variable of a body, both parts of the redex. The state is short and its variables are
--- few, so its parts have the words that substitution asks for; and what is written is the next state.
+-- S_BETA and S_MU put a term in for the outermost variable of a body, and both stand in the redex. The state is short and its
+-- variables are few, so the words of both are as substitution asks; and the words before the redex, what is substituted and the
+-- words behind the redex are the next state.
 use Prim.Native.Nat.{ℕ, suc, _-_, _≤_}
 use mathlib.Core.Bool.{Bool, true}
 use mathlib.Core.List.{List, _++_, append-assoc}
@@ -16,7 +17,8 @@ use Rattle.reduction.specs.declared.rewriting.Change.the-variants.{Put}
 use Rattle.reduction.specs.declared.stepping.Stepped.{Stepped}
 use Rattle.reduction.specs.Rewriting.{Bounded, Plain, instantiated}
 use Rattle.reduction.specs.Stepping.{Arrives, Codes, Steps}
-use Rattle.reduction.proofs.Rewritten.{instantiated-words, closed-raised, plain-words}
+use Rattle.reduction.proofs.Plain.{plain-words}
+use Rattle.reduction.proofs.Rewritten.{instantiated-words, closed-raised}
 use Rattle.reduction.proofs.Spans.{Spanned}
 use Rattle.reduction.proofs.Placing.{Placed, placed-within, reaches}
 

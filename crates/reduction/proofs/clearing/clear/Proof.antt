@@ -23,42 +23,6 @@ abbrev μ-loop : tie.MeasureT-loop
 loop-holds : tie.Need-loop-holds Inv-loop μ-loop
 loop-holds c = (omega arith, refl, cleared-none (now (c .before .args .work)))
 
-mul-from : tie.Need-mul-from Inv-loop μ-loop
-mul-from c = omega arith
-
-add-to : tie.Need-add-to Inv-loop μ-loop
-add-to c = omega arith
-
-mul-is-clear : tie.Need-mul-is-clear Inv-loop μ-loop
-mul-is-clear c = omega arith
-
-sub-is-clear : tie.Need-sub-is-clear Inv-loop μ-loop
-sub-is-clear c = omega arith
-
-part-is-clear-start : tie.Need-part-is-clear-start Inv-loop μ-loop
-part-is-clear-start c = omega arith
-
-part-is-clear-end : tie.Need-part-is-clear-end Inv-loop μ-loop
-part-is-clear-end c = omega arith
-
-mul-fill : tie.Need-mul-fill Inv-loop μ-loop
-mul-fill c = omega arith
-
-sub-fill : tie.Need-sub-fill Inv-loop μ-loop
-sub-fill c = omega arith
-
-part-fill-start : tie.Need-part-fill-start Inv-loop μ-loop
-part-fill-start c = omega arith
-
-part-fill-end : tie.Need-part-fill-end Inv-loop μ-loop
-part-fill-end c = omega arith
-
-add-block : tie.Need-add-block Inv-loop μ-loop
-add-block c = omega arith
-
-loop-less : tie.Need-loop-less Inv-loop μ-loop
-loop-less c = omega arith
-
 loop-again : tie.Need-loop-again Inv-loop μ-loop
 loop-again c =
     let work = now (c .before .before .before .before .before .before .before .args .work) in
@@ -87,6 +51,6 @@ pub clear-spec : {M : Type 1} → statement M
 clear-spec =
     tie.close
     (tie.spec
-    Inv-loop μ-loop loop-holds mul-from add-to mul-is-clear sub-is-clear part-is-clear-start part-is-clear-end
-    (λ c κs. search needs) mul-fill sub-fill part-fill-start part-fill-end (λ c κs. search needs) add-block loop-less loop-again
-    same-length returns)
+    Inv-loop μ-loop loop-holds (λ c. search needs) (λ c. search needs) (λ c. search needs) (λ c. search needs)
+    (λ c. search needs) (λ c. search needs) (λ c κs. search needs) (λ c. search needs) (λ c. search needs) (λ c. search needs)
+    (λ c. search needs) (λ c κs. search needs) (λ c. search needs) (λ c. search needs) loop-again same-length returns)

@@ -1,5 +1,5 @@
--- `copy` meets its contract. The loop's invariant: the output is as it was with the first `i` words of the source stored from `at`
--- on, and there is room for all of them.
+-- `copy` meets its contract. The loop's invariant: the output is as it was with the first `i` words of the source stored from
+-- `at` on, and there is room for all of them.
 use Prim.Native.Nat.{_+_, _-_, _≤_}
 use mathlib.Core.Path.{_≡_, refl, ap, _∙_}
 use borrow.Author.Needs.{needs}

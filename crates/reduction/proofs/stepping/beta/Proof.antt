@@ -1,5 +1,5 @@
--- `beta` meets its contract: the walks find the annotation, the body and the argument of the application, one behind the other, and the
--- body with the argument put in is what the application steps to.
+-- `beta` meets its contract: the walks find the annotation, the body and the argument of the application, one behind the other,
+-- and the body with the argument put in is what the application steps to.
 use Prim.Native.Nat.{_+_, _≤_}
 use mathlib.Core.Path.{refl}
 use native.Mathlib.Omega.{arith}

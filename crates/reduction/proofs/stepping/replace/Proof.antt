@@ -1,5 +1,5 @@
--- `replace` meets its contract: it writes what stands before the redex, then the instantiated body, then what stands behind, each where
--- the last ended.
+-- `replace` meets its contract: it writes what stands before the redex, then the instantiated body, then what stands behind, each
+-- where the last ended.
 use mathlib.Core.List.{_++_}
 use mathlib.Core.Path.{sym}
 use lib.ListN.{take}

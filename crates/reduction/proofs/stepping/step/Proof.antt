@@ -1,5 +1,5 @@
--- `step` meets its contract: the redex that is found is the term's, and its rule gives the next state; where there is none, the term is a
--- value or stuck.
+-- `step` meets its contract: the redex that is found is the term's, and its rule gives the next state; where there is none, the
+-- term is a value or stuck.
 use mathlib.Core.Path.{_≡_, sym, _∙_}
 use borrow.Author.Needs.{needs}
 use Rattle.reduction.specs.declared.stepping.Redex.{Redex}

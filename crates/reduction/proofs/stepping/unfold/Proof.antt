@@ -1,5 +1,5 @@
--- `unfold` meets its contract: the walks find the annotation and the body of the recursion, and the body with the whole recursion put in
--- is what the recursion steps to.
+-- `unfold` meets its contract: the walks find the annotation and the body of the recursion, and the body with the whole recursion
+-- put in is what the recursion steps to.
 use Prim.Native.Nat.{_+_, _≤_}
 use mathlib.Core.Path.{refl}
 use native.Mathlib.Omega.{arith}

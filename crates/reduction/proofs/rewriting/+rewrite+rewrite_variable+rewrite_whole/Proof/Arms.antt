@@ -1,5 +1,5 @@
--- The arms of a `match` on a shape: what each tells of the word. Where an arm stands for several variants, only that it is one of them
--- is known: one that is no variable, and one that ends a subterm.
+-- The arms of a `match` on a shape: what each tells of the word. Where an arm stands for several variants, only that it is one of
+-- them is known: one that is no variable, and one that ends a subterm.
 use Prim.Native.Nat.{ℕ, _+_, _≤_, _<_}
 use mathlib.Core.List.{[], _∷_}
 use mathlib.Core.Logic.{_⊎_, ⊎-elim}
@@ -7,10 +7,10 @@ use mathlib.Core.Path.{_≡_}
 use native.Mathlib.Omega.{arith}
 use denote.Enum.Declared.{tagOf}
 use Rattle.calculus.specs.Reading.{binds, meaning}
+use Rattle.term.proofs.Words.{no-binds}
 use Rattle.reduction.specs.declared.rewriting.Shape.{Shape}
 use Rattle.reduction.specs.declared.rewriting.Shape.the-variants as shape
 use Rattle.reduction.specs.Rewriting.{shape-of}
-use Rattle.reduction.proofs.Shapes.{no-binds}
 use Rattle.reduction.proofs.rewriting.Shape.{the-type}
 
 module _ {s : Shape} (w : ℕ) where

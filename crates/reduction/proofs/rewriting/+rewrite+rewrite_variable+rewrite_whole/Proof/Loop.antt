@@ -1,14 +1,14 @@
--- The loop of `rewrite`: its invariant and measure, and what is known of the word of a turn by its shape. A variable has no parts, and any
--- other word stands for itself.
+-- The loop of `rewrite`: its invariant and measure, and what is known of the word of a turn by its shape. A variable has no
+-- parts, and any other word stands for itself.
 use Prim.Native.Nat.{ℕ, _+_, _-_, _≤_}
 use mathlib.Core.List.{List, [], _∷_}
 use mathlib.Core.Path.{_≡_}
 use native.Mathlib.Omega.{arith}
 use lib.ListN.{length, getD}
 use Rattle.calculus.specs.Reading.{binds, meaning}
+use Rattle.term.proofs.Words.{no-binds}
 use Rattle.reduction.specs.Rewriting.{changed-word}
 use Rattle.reduction.proofs.Changes.{unchanged}
-use Rattle.reduction.proofs.Shapes.{no-binds}
 use Rattle.reduction.proofs.Turns.{Turn}
 use Rattle.reduction.proofs.rewriting.rewrite.Reads as reads
 use Rattle.reduction.proofs.rewriting.+rewrite+rewrite_variable+rewrite_whole.Lts-rewrite as lts
