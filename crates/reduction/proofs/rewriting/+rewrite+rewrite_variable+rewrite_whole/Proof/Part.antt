@@ -8,7 +8,7 @@ use Rattle.term.proofs.Finding.{from-on}
 use Rattle.term.proofs.Walking.{span-le}
 use Rattle.reduction.proofs.Plain.{below-drop}
 use Rattle.reduction.proofs.Turns.{turn-length, turn-two, part-lacked}
-use Rattle.reduction.proofs.Wrote.{rewrote-of, relacked-of, rewrites-short}
+use Rattle.reduction.proofs.Wrote.{rewrote-of, relacked-of, written-short}
 use Rattle.reduction.proofs.rewriting.rewrite.Reads as reads
 use Rattle.reduction.proofs.rewriting.+rewrite+rewrite_variable+rewrite_whole.Lts-rewrite as lts
 use Rattle.reduction.proofs.rewriting.+rewrite+rewrite_variable+rewrite_whole.Proof.Claims.{rewrite-at, rewrite-claims}
@@ -48,7 +48,7 @@ module _ (t : ℕ) where
       let turn = s .before .before .before .loop .inv in
       let more = s .before .before .loop-test .taken in
       let l = relacked-of (call .rewrite .ensures) (c .enum-told3 .given .1) in
-      rewrites-short (part-lacked turn more (still t (node .before)) (node .if1 .left) (two t found .0) (rw from-on at l))
+      written-short (part-lacked turn more (still t (node .before)) (node .if1 .left) (two t found .0) (rw from-on at l))
 
   pub add-read-2 : lts.Need-add-read-2 (rewrite-claims t) (rewrite-at t) reads.Post Inv-loop μ-loop
   add-read-2 c =

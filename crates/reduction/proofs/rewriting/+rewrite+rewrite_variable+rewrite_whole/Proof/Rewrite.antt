@@ -7,7 +7,7 @@ use borrow.Author.Needs.{needs}
 use lib.ListN.{length-set}
 use Rattle.reduction.proofs.Plain.{below-at}
 use Rattle.reduction.proofs.Turns.{turn-first, turn-length, turn-last, leaf-read, leaf-wrote, leaf-lacked, word-lacked, turn-leaf, turn-one}
-use Rattle.reduction.proofs.Wrote.{wrote-of, lacked-of, rewrites-all, rewrites-short}
+use Rattle.reduction.proofs.Wrote.{wrote-of, lacked-of, rewrites-all, written-short}
 use Rattle.reduction.proofs.rewriting.rewrite.Reads as reads
 use Rattle.reduction.proofs.rewriting.+rewrite+rewrite_variable+rewrite_whole.Lts-rewrite as lts
 use Rattle.reduction.proofs.rewriting.+rewrite+rewrite_variable+rewrite_whole.Proof.Arms.{one-word, last-word}
@@ -55,7 +55,7 @@ module _ (t : ℕ) where
       let turn = s .before .before .before .loop .inv in
       let more = s .before .before .loop-test .taken in
       let l = lacked-of (call .rewrite-variable .ensures) (c .enum-told .given .1) in
-      rewrites-short (leaf-lacked turn more (alone t found) (rw (← index t found) at l))
+      written-short (leaf-lacked turn more (alone t found) (rw (← index t found) at l))
 
   same-length-2 : lts.Need-same-length-2 (rewrite-claims t) (rewrite-at t) reads.Post Inv-loop μ-loop
   same-length-2 c =
@@ -80,7 +80,7 @@ module _ (t : ℕ) where
       let s = c .before .before in
       let turn = s .before .before .before .loop .inv in
       let more = s .before .before .loop-test .taken in
-      rewrites-short (word-lacked turn more (still t (c .before)) (c .if1 .taken))
+      written-short (word-lacked turn more (still t (c .before)) (c .if1 .taken))
 
   same-length-4 : lts.Need-same-length-4 (rewrite-claims t) (rewrite-at t) reads.Post Inv-loop μ-loop
   same-length-4 c = simp length-set (turn-length (c .before .before .before .before .before .before .loop .inv))

@@ -11,7 +11,7 @@ use Rattle.reduction.specs.Rewriting.{changed-word, rewritten}
 use Rattle.reduction.proofs.Changes.{unchanged}
 use Rattle.reduction.proofs.Plain.{below-take, below-at}
 use Rattle.reduction.proofs.Tails.{rewritten-tail}
-use Rattle.reduction.proofs.Wrote.{rewrote-of, relacked-of, length-wrote, lacked-more, writes-short, writes-then}
+use Rattle.reduction.proofs.Wrote.{rewrote-of, relacked-of, length-wrote, lacked-more, written-short, written-then}
 use Rattle.reduction.proofs.rewriting.rewrite_whole.Reads as reads
 use Rattle.reduction.proofs.rewriting.+rewrite+rewrite_variable+rewrite_whole.Lts-rewrite_whole as lts
 use Rattle.reduction.proofs.rewriting.+rewrite+rewrite_variable+rewrite_whole.Proof.Claims.{rewrite-whole-at, rewrite-whole-claims}
@@ -63,14 +63,14 @@ module _ (t : ℕ) where
       let call = c .before .before .before .before in
       let l = call .before .before .before in
       let rest = drop (l .last-variable .result) (l .before .before .before .before .args .source .now) in
-      rw (whole l) (writes-short (lacked-more rest (relacked-of (call .rewrite .ensures) (c .enum-told .given .1))))
+      rw (whole l) (written-short (lacked-more rest (relacked-of (call .rewrite .ensures) (c .enum-told .given .1))))
 
   returns-2 : lts.Need-returns-2 (rewrite-whole-claims t) (rewrite-whole-at t) reads.Post
   returns-2 c =
       let next = c .before .before .before .before .before .before in
       let call = next .before .before .before .before in
       let w = rewrote-of (call .rewrite .ensures) (next .next .given .1) .1 in
-      rw (whole (call .before .before .before)) (writes-then w (rw from-on at (c .before .before .copy .ensures)))
+      rw (whole (call .before .before .before)) (written-then w (rw from-on at (c .before .before .copy .ensures)))
 
   pub closed : {M : Type 1} → lts.Closed (rewrite-whole-claims t) (rewrite-whole-at t) reads.Post M
   closed =
