@@ -26,7 +26,17 @@ abbrev pub outermost : List Redex
 outermost = Value ∷ Stuck ∷ Stuck ∷ Value ∷ Value ∷ Unfold 0 ∷ Value ∷ Stuck ∷ Stuck ∷ []
 
 abbrev pub framed : ℕ → ℕ → ℕ → List Redex
-framed n b p = Stuck ∷ Stuck ∷ Stuck ∷ cond (eqb p 1) (Cancel b) Stuck ∷ cond (eqb p 2) (Beta b) Stuck ∷ Unfold n ∷ Stuck ∷ Stuck ∷ Stuck ∷ []
+framed n b p =
+    Stuck
+    ∷ Stuck
+    ∷ Stuck
+    ∷ cond (eqb p 1) (Cancel b) Stuck
+    ∷ cond (eqb p 2) (Beta b) Stuck
+    ∷ Unfold n
+    ∷ Stuck
+    ∷ Stuck
+    ∷ Stuck
+    ∷ []
 
 abbrev row : ℕ → ℕ → List Redex
 row zero p = outermost
@@ -50,14 +60,16 @@ deeper-row n p = rw (deeper-cond (eqb p 1) (Cancel n), deeper-cond (eqb p 2) (Be
 
 deeper-decide : (n w p : ℕ) → deeper (decide (suc n) w p) Stuck ≡ decide (suc (suc n)) w p
 unfolding deeper
-deeper-decide n w p = sym (List·getD-map (λ r. deeper r Stuck) (row (suc n) p) w Stuck) ∙ ap (λ l. getD l w Stuck) (deeper-row n p)
+deeper-decide n w p =
+    sym (List·getD-map (λ r. deeper r Stuck) (row (suc n) p) w Stuck) ∙ ap (λ l. getD l w Stuck) (deeper-row n p)
 
 heads-frame : (f : Frame) (ws : List ℕ) → heads (frame-word f ∷ ws) ≡ suc (heads ws)
 unfolding frame-word heads
 heads-frame (applied-to u) ws = refl
 heads-frame cast-down ws = refl
 
-frame-inside : (f g : Frame) (ws : List ℕ) → deeper (decided (frame-word g ∷ ws)) Stuck ≡ decided (frame-word f ∷ frame-word g ∷ ws)
+frame-inside : (f g : Frame) (ws : List ℕ)
+    → deeper (decided (frame-word g ∷ ws)) Stuck ≡ decided (frame-word f ∷ frame-word g ∷ ws)
 frame-inside f g ws =
     rw
     (heads-frame f (frame-word g ∷ ws), heads-frame g ws)
@@ -86,7 +98,8 @@ fill-decided : (f : Frame) (t : Term) (k : List ℕ)
 unfolding emit heads locate deeper at-node at-application at-castdown frame-word kind meaning
 fill-decided (applied-to u) (var i) k h = variable-inside (applied-to u) i k
 fill-decided (applied-to u) star k h = refl
-fill-decided (applied-to u) (app g s) k h = ap (λ r. deeper r Stuck) h ∙ frame-inside (applied-to u) (applied-to s) (emit g (emit s k))
+fill-decided (applied-to u) (app g s) k h =
+    ap (λ r. deeper r Stuck) h ∙ frame-inside (applied-to u) (applied-to s) (emit g (emit s k))
 fill-decided (applied-to u) (lam a e) k h = refl
 fill-decided (applied-to u) (pi a b) k h = refl
 fill-decided (applied-to u) (castup a e) k h = refl

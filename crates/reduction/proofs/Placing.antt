@@ -23,7 +23,10 @@ pub record Placed (ws : List ℕ) (at : ℕ) (s : Term) : Type 0 where
   pub here : drop at ws ≡ emit s rest
   pub alone : at ≡ 0 → rest ≡ []
   pub scoped : (t : Term) → ws ≡ words t → (n : ℕ) → Scoped n t → Scoped n s
-  pub steps : (x t : Term) → step s ≡ next x → ws ≡ words t → (y : Term) × (step t ≡ next y) × (words y ≡ take at ws ++ emit x rest)
+  pub steps : (x t : Term)
+      → step s ≡ next x
+      → ws ≡ words t
+      → (y : Term) × (step t ≡ next y) × (words y ≡ take at ws ++ emit x rest)
 
 pub placed-within : {ws : List ℕ} {at : ℕ} {s : Term} → Placed ws at s → at + size s ≤ length ws
 placed-within {ws} {at} {s} p = omega (arith, length-drop at ws, ap length (p .here), emit-length s (p .rest), size-positive s)
@@ -51,7 +54,9 @@ placed {ws} {at} {s} t coded i =
     same : (t′ : Term) → ws ≡ words t′ → t′ ≡ plug fs s
     same t′ coded′ = words-injective t′ t (sym coded′ ∙ coded) ∙ i .whole
 
-pub beta-placed : {ws : List ℕ} {at : ℕ} → Located ws (redex.Beta at) → (a : Term) × (e : Term) × (u : Term) × Placed ws at (app (lam a e) u)
+pub beta-placed : {ws : List ℕ} {at : ℕ}
+    → Located ws (redex.Beta at)
+    → (a : Term) × (e : Term) × (u : Term) × Placed ws at (app (lam a e) u)
 beta-placed (t, coded, there) =
     let (a, e, u, i) = splits-at t there in
     (a, e, u, placed t coded i)
@@ -61,7 +66,9 @@ unfold-placed (t, coded, there) =
     let (a, e, i) = splits-at t there in
     (a, e, placed t coded i)
 
-pub cancel-placed : {ws : List ℕ} {at : ℕ} → Located ws (redex.Cancel at) → (a : Term) × (e : Term) × Placed ws at (castdown (castup a e))
+pub cancel-placed : {ws : List ℕ} {at : ℕ}
+    → Located ws (redex.Cancel at)
+    → (a : Term) × (e : Term) × Placed ws at (castdown (castup a e))
 cancel-placed (t, coded, there) =
     let (a, e, i) = splits-at t there in
     (a, e, placed t coded i)

@@ -72,7 +72,8 @@ module _ (f : ℕ → ℕ → List ℕ) (h : ℕ → Term → Term) (follows : F
   rewritten-emit (pi a b) d k ds =
       two 5 1 a b (omega arith) refl (rewritten-emit a) (rewritten-emit b) d (add-one d) k ds ∙ rw (follows .of-pi d a b) refl
   rewritten-emit (castup a e) d k ds =
-      two 3 0 a e (omega arith) refl (rewritten-emit a) (rewritten-emit e) d (add-zero d) k ds ∙ rw (follows .of-castup d a e) refl
+      two 3 0 a e (omega arith) refl (rewritten-emit a) (rewritten-emit e) d (add-zero d) k ds
+      ∙ rw (follows .of-castup d a e) refl
   rewritten-emit (castdown e) d k ds =
       one 1 e (omega arith) refl (rewritten-emit e) d k ds ∙ rw (follows .of-castdown d e) refl
   rewritten-emit (mu a e) d k ds =

@@ -60,7 +60,9 @@ module _ {f : ℕ → ℕ → List ℕ} {source : List ℕ} {around : ℕ} {befo
       front : drop read source ≡ getD source read 0 ∷ drop (read + 1) source
       front = rw (add-one read) (drop-cons source read 0 more)
 
-      whole-here : rewritten f source (around ∷ []) ≡ h .written ++ rewritten f (getD source read 0 ∷ drop (read + 1) source) (depth ∷ [])
+      whole-here :
+          rewritten f source (around ∷ [])
+          ≡ h .written ++ rewritten f (getD source read 0 ∷ drop (read + 1) source) (depth ∷ [])
       whole-here = h .whole ∙ ap (λ ws. h .written ++ rewritten f ws (depth ∷ [])) front
 
       walked-here : span source 1 ≡ read + span (getD source read 0 ∷ drop (read + 1) source) 1

@@ -1,7 +1,7 @@
 -- The kinds of words, one for each variant of the enum that a word is classified by, numbered as the variants are: so what the
 -- code knows of a variant's number it knows of the word's kind. Words below 7 have a kind of their own; from 7 on a word is a
 -- variable or means nothing.
-use Prim.Native.Nat.{ℕ, zero, suc, _≤_}
+use Prim.Native.Nat.{ℕ, _≤_}
 use mathlib.Core.Bool.{Bool, false, _&&_}
 use mathlib.Core.List.{List}
 use mathlib.Core.Path.{_≡_, refl, ap, _∙_, subst}
@@ -15,7 +15,7 @@ use Rattle.term.specs.declared.word.Meaning.{Meaning}
 use Rattle.term.specs.declared.word.Meaning.the-variants.{Star, CastDown, Application, CastUp, Abstraction, Product, Recursion, Variable, Nothing}
 use Rattle.term.specs.Word.{meaning-of}
 use Rattle.term.proofs.Visits.{tag, Each, at-one}
-use Rattle.term.proofs.Words.{from-seven}
+use Rattle.term.proofs.Words.{by-word, from-seven}
 
 abbrev pub index : calculus.Meaning → ℕ
 index a-star = 0
@@ -60,14 +60,7 @@ no-frame w low = rw (le-leb 1 w (omega arith), lt-leb w 2 (omega arith)) refl
 
 pub framing-kind : (w : ℕ) → framing w ≡ framing (kind w)
 unfolding kind meaning
-framing-kind zero = refl
-framing-kind (suc zero) = refl
-framing-kind (suc (suc zero)) = refl
-framing-kind (suc (suc (suc zero))) = refl
-framing-kind (suc (suc (suc (suc zero)))) = refl
-framing-kind (suc (suc (suc (suc (suc zero))))) = refl
-framing-kind (suc (suc (suc (suc (suc (suc zero)))))) = refl
-framing-kind (suc (suc (suc (suc (suc (suc (suc w))))))) = above (suc (suc (suc (suc (suc (suc (suc w))))))) (omega arith)
+framing-kind = by-word (λ w. framing w ≡ framing (kind w)) refl refl refl refl refl refl refl others
   where
-    above : (w : ℕ) → 7 ≤ w → framing w ≡ framing (kind w)
-    above w low = no-frame w low ∙ from-seven (λ m. false ≡ framing (index m)) w low refl refl
+    others : (w : ℕ) → 7 ≤ w → framing w ≡ framing (kind w)
+    others w low = no-frame w low ∙ from-seven (λ m. false ≡ framing (index m)) w low refl refl

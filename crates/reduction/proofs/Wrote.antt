@@ -25,7 +25,8 @@ pub record Lacked (e out : List ℕ) (at : ℕ) (after : List ℕ) : Type 0 wher
   pub kept : take at after ≡ take at out
 
 -- Either answer tells which of the two the call did.
-module _ {R : Type 0} {to : ℕ → R} {none : R} {e out : List ℕ} {at : ℕ} {r : R} {after : List ℕ} (w : Written to none e out at r after) where
+module _ {R : Type 0} {to : ℕ → R} {none : R} {e out : List ℕ} {at : ℕ} {r : R} {after : List ℕ}
+    (w : Written to none e out at r after) where
   fitted : (r ≡ none → ⊥) → Wrote e out at (at + length e) after × (r ≡ to (at + length e))
   fitted differs =
       let never : length out < at + length e → ⊥ = λ s. differs (w .full s .0) in
@@ -48,7 +49,8 @@ module _ {e out : List ℕ} {at : ℕ} {r : Room} {after : List ℕ} (w : Writes
   pub lacked-of : r ≡ room.Full → Lacked e out at after
   lacked-of n = missed w (λ m to. let z : _≡_ {A = ℕ} 0 1 = cc in omega arith)
 
-module _ {e : List ℕ} {read : ℕ} {out : List ℕ} {at : ℕ} {r : Progress} {after : List ℕ} (w : Rewrites e read out at r after) where
+module _ {e : List ℕ} {read : ℕ} {out : List ℕ} {at : ℕ} {r : Progress} {after : List ℕ}
+    (w : Rewrites e read out at r after) where
   pub rewrote-of : {more next : ℕ} → r ≡ progress.To more next → (more ≡ read) × Wrote e out at next after
   rewrote-of {more} {next} to =
       let (wrote, said) = fitted w (λ n. let z : _≡_ {A = ℕ} 0 1 = cc in omega arith) in

@@ -10,8 +10,8 @@ use Rattle.reduction.specs.declared.copying.Room.the-variants as room
 use Rattle.reduction.specs.declared.rewriting.Progress.{Progress}
 use Rattle.reduction.specs.declared.rewriting.Progress.the-variants as progress
 
--- `Written to none e out at r after`: the words `e` are written at `at` into `out`, which leaves `after`. The answer `r` is `to` of the
--- place behind them, and `none` where they do not fit.
+-- `Written to none e out at r after`: the words `e` are written at `at` into `out`, which leaves `after`. The answer `r` is `to`
+-- of the place behind them, and `none` where they do not fit.
 pub record Written {R : Type 0} (to : ℕ → R) (none : R) (e out : List ℕ) (at : ℕ) (r : R) (after : List ℕ) : Type 0 where
   pub fits : at + length e ≤ length out → (r ≡ to (at + length e)) × (after ≡ sets out at e)
   pub full : length out < at + length e → (r ≡ none) × (take at after ≡ take at out)

@@ -22,7 +22,9 @@ use Rattle.term.proofs.Walking.{span-emit, read-term}
 use Rattle.term.proofs.Words.{no-parts}
 
 -- The first of some terms in their words, the second, and a number for which there is none.
-nth-first : (es : List Term) (place : ℕ) → 1 ≤ length es → nth-part es 1 place ≡ record { start = place; extent = span (emits es) 1 }
+nth-first : (es : List Term) (place : ℕ)
+    → 1 ≤ length es
+    → nth-part es 1 place ≡ record { start = place; extent = span (emits es) 1 }
 unfolding nth-part emits
 nth-first [] place h = absurd (omega arith)
 nth-first (e ∷ es) place h = rw (span-emit e (emits es)) refl

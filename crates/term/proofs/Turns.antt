@@ -1,7 +1,7 @@
 -- The one loop of reading: where it stands, and what a turn makes of that by what the word at hand is. The subterm at hand comes
 -- first of those that are pending; a refusal ends the reading, a leaf leaves it to the next one pending, and a node to its parts.
 use Prim.Native.Nat.{ℕ, _+_, _-_, _≤_, _<_}
-use mathlib.Core.List.{List, [], _∷_}
+use mathlib.Core.List.{List, [], _∷_, _++_, map}
 use mathlib.Core.Path.{_≡_, refl, sym, ap, _∙_}
 use native.Mathlib.Nat.{add-zero}
 use native.Mathlib.Omega.{arith}
@@ -58,14 +58,17 @@ module _ {ws rooms scopes : List ℕ} {n p room b : ℕ} (s : Stands ws rooms sc
     unfolding _>>=_
     turn-refused e = rw (s .same, skim-word ws p (pending room b) (stacked rooms scopes n) inside, ← e) refl
 
-    after-leaf : ok [] ≡ visited (getD ws p 0) (pending room b) p
-        → skim ws (pending deepest 0 ∷ []) 0 ≡ skim (drop (p + 1) ws) (stacked rooms scopes n) (p + 1)
+    -- The word's parts come next, and then what was pending.
+    after-word : {ks : List ℕ}
+        → ok ks ≡ visited (getD ws p 0) (pending room b) p
+        → skim ws (pending deepest 0 ∷ []) 0
+        ≡ skim (drop (p + 1) ws) (map (below (pending room b)) ks ++ stacked rooms scopes n) (p + 1)
     unfolding _>>=_
-    after-leaf e = rw (s .same, skim-word ws p (pending room b) (stacked rooms scopes n) inside, ← e) refl
+    after-word e = rw (s .same, skim-word ws p (pending room b) (stacked rooms scopes n) inside, ← e) refl
 
     pub turn-last : n ≡ 0 → ok [] ≡ visited (getD ws p 0) (pending room b) p → ok (p + 1) ≡ skim ws (pending deepest 0 ∷ []) 0
     unfolding stacked
-    turn-last none e = rw (after-leaf e, none) (sym (skim-none (drop (p + 1) ws) (p + 1)))
+    turn-last none e = rw (after-word e, none) (sym (skim-none (drop (p + 1) ws) (p + 1)))
 
     pub turn-leaf : 0 < n
         → ok [] ≡ visited (getD ws p 0) (pending room b) p
@@ -79,11 +82,11 @@ module _ {ws rooms scopes : List ℕ} {n p room b : ℕ} (s : Stands ws rooms sc
           many-scopes = s .many-scopes;
           fits = rw (stacked-length rooms scopes (n - 1)) at next;
           waiting = others;
-          same = after-leaf e ∙ ap (λ l. skim (drop (p + 1) ws) l (p + 1)) (taken rooms scopes n some);
+          same = after-word e ∙ ap (λ l. skim (drop (p + 1) ws) l (p + 1)) (taken rooms scopes n some);
         }
 
     pub turn-one : ok (0 ∷ []) ≡ visited (getD ws p 0) (pending room b) p → Stands ws rooms scopes n (p + 1) (room - 1) b
-    unfolding _>>=_ below
+    unfolding below
     turn-one e =
         record {
           within = omega arith;
@@ -91,7 +94,7 @@ module _ {ws rooms scopes : List ℕ} {n p room b : ℕ} (s : Stands ws rooms sc
           many-scopes = s .many-scopes;
           fits = record { few = omega (arith, s .fits .few); shallow = omega (arith, s .fits .shallow) };
           waiting = s .waiting;
-          same = rw (s .same, skim-word ws p (pending room b) (stacked rooms scopes n) inside, ← e) (rw (add-zero b) refl);
+          same = rw (after-word e, add-zero b) refl;
         }
 
     module _ {k : ℕ} (e : ok (0 ∷ k ∷ []) ≡ visited (getD ws p 0) (pending room b) p) where
@@ -111,7 +114,7 @@ module _ {ws rooms scopes : List ℕ} {n p room b : ℕ} (s : Stands ws rooms sc
       scope-free = omega (arith, level, s .fits .few, s .many-scopes)
 
       pub turn-two : Stands ws (set rooms n (room - 1)) (set scopes n (b + k)) (n + 1) (p + 1) (room - 1) b
-      unfolding _>>=_ below Fitting
+      unfolding below Fitting
       turn-two =
           let one-more = stored rooms scopes n (room - 1) (b + k) room-free scope-free in
           record {
@@ -123,8 +126,5 @@ module _ {ws rooms scopes : List ℕ} {n p room b : ℕ} (s : Stands ws rooms sc
                 rw
                 (one-more, stacked-length rooms scopes n)
                 (record { few = omega (arith, second-fits .few); shallow = second-fits .shallow }, s .waiting);
-            same =
-                rw
-                (s .same, skim-word ws p (pending room b) (stacked rooms scopes n) inside, ← e, one-more)
-                (rw (add-zero b) refl);
+            same = rw (after-word e, add-zero b, one-more) refl;
           }

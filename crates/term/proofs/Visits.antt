@@ -8,18 +8,19 @@ use mathlib.Core.Logic.{inl, inr}
 use mathlib.Core.Path.{_≡_, refl, sym, ap, subst}
 use native.Mathlib.Omega.{arith}
 use borrow.Author.Tests.{lt-ltb, le-ltb}
-use lib.Dec.{T, ltb, eqb, ltb→lt, lit≤}
+use lib.Dec.{T, ltb, eqb, ltb→lt}
 use lib.ListN.{getD}
 use types.Run.{OneOf}
 use denote.Enum.Declared.{tagOf}
 use Rattle.calculus.specs.Answer.{ok, refused, _>>=_, _>>_, require, no-meaning, level-65, unbound}
 use Rattle.calculus.specs.Reading as calculus
-use Rattle.calculus.specs.Reading.{a-star, a-castdown, an-app, a-castup, a-lam, a-pi, a-mu, a-variable, nothing, meaning, means, bound, binds, test, Pending}
+use Rattle.calculus.specs.Reading.{a-variable, nothing, meaning, means, bound, binds, test, Pending}
 use Rattle.calculus.proofs.Comparisons.{passed}
 use Rattle.term.specs.declared.word.Meaning.{Meaning}
 use Rattle.term.specs.declared.word.Meaning.the-variants.{Star, CastDown, Application, CastUp, Abstraction, Product, Recursion, Variable, Nothing}
 use Rattle.term.specs.Word.{meaning-of}
 use Rattle.term.specs.Subterms.{pending, visited}
+use Rattle.term.proofs.Words.{few-binds}
 use Rattle.term.proofs.word.Meaning.{the-type}
 
 module _ {m : calculus.Meaning} (w room b p : ℕ) (e : meaning w ≡ m) where
@@ -50,18 +51,6 @@ tested p true true false e = let z : _≡_ {A = ℕ} 0 1 = cc in absurd (omega a
 tested p true false c e = let z : _≡_ {A = ℕ} 0 1 = cc in absurd (omega arith)
 tested p false b c e = let z : _≡_ {A = ℕ} 0 1 = cc in absurd (omega arith)
 
-binds-second : (m : calculus.Meaning) → getD (binds m) 1 0 ≤ 1
-unfolding binds
-binds-second a-star = lit≤ tt
-binds-second a-castdown = lit≤ tt
-binds-second an-app = lit≤ tt
-binds-second a-castup = lit≤ tt
-binds-second a-lam = lit≤ tt
-binds-second a-pi = lit≤ tt
-binds-second a-mu = lit≤ tt
-binds-second (a-variable i) = lit≤ tt
-binds-second nothing = lit≤ tt
-
 module _ {ks : List ℕ} (w : ℕ) (s : Pending) (p : ℕ) (e : ok ks ≡ visited w s p) where
   answers : T (ltb 0 (s .room)) × (ks ≡ binds (meaning w))
   unfolding visited test
@@ -71,7 +60,7 @@ module _ {ks : List ℕ} (w : ℕ) (s : Pending) (p : ℕ) (e : ok ks ≡ visite
   has-level = ltb→lt 0 (s .room) (answers .0)
 
   pub binds-one : getD ks 1 0 ≤ 1
-  binds-one = rw (answers .1) (binds-second (meaning w))
+  binds-one = rw (answers .1) (few-binds (meaning w) .1)
 
 -- The place of a variant in its enum.
 abbrev pub tag : Meaning → ℕ
@@ -88,7 +77,7 @@ at-one P (k ∷ []) h x e = subst P (sym e) (h .0)
 at-one P (k ∷ k′ ∷ ks) h x (inl e) = subst P (sym e) (h .0)
 at-one P (k ∷ k′ ∷ ks) h x (inr r) = at-one P (k′ ∷ ks) (h .1) x r
 
-pub meant : (m : Meaning) → tag m < 8 → T (means (meaning-of m))
+pub meant : (m : Meaning) → T (not (eqb (tag m) 8)) → T (means (meaning-of m))
 unfolding means
 meant Star h = tt
 meant CastDown h = tt
@@ -98,7 +87,7 @@ meant Abstraction h = tt
 meant Product h = tt
 meant Recursion h = tt
 meant (Variable i) h = tt
-meant Nothing h = absurd (omega arith)
+meant Nothing h = elim h [ ]
 
 -- A meaning that is no variable: such a word is inside its binders under any number of them, and `ks` are its parts.
 pub record No-variable (m : calculus.Meaning) (ks : List ℕ) : Type 0 where
@@ -121,11 +110,12 @@ by-tag Recursion h = record { inside = λ b. tt; parts = refl }
 by-tag (Variable i) h = elim h [ ]
 by-tag Nothing h = record { inside = λ b. tt; parts = refl }
 
--- An arm for several variants, none of them the variable, each with the parts `ks`.
-abbrev pub Arm : List ℕ → List ℕ → Type 0
-Arm ks tags = Each (λ t. T (not (eqb t 7)) × (getD rows t [] ≡ ks)) tags
+-- The variant with the tag `t` is another than the variable, and `ks` are its parts.
+abbrev pub Row : List ℕ → ℕ → Type 0
+Row ks t = T (not (eqb t 7)) × (getD rows t [] ≡ ks)
 
-pub arm : (m : Meaning) (ks tags : List ℕ) → Arm ks tags → OneOf tags (tag m) → No-variable (meaning-of m) ks
+-- An arm for several such variants.
+pub arm : (m : Meaning) (ks tags : List ℕ) → Each (Row ks) tags → OneOf tags (tag m) → No-variable (meaning-of m) ks
 arm m ks tags each one =
-    let (other, same) = at-one (λ t. T (not (eqb t 7)) × (getD rows t [] ≡ ks)) tags each (tag m) one in
+    let (other, same) = at-one (Row ks) tags each (tag m) one in
     rw same at (by-tag m other)

@@ -59,7 +59,11 @@ no-part : (w : ℕ) → arity w ≡ 0 → (k : List ℕ) (n : ℕ) → span (w �
 unfolding span
 no-part w none k n = rw (none, zero-add n) (omega arith)
 
-one-part : (w : ℕ) (e : Term) → arity w ≡ 1 → Passed e → (k : List ℕ) (n : ℕ) → span (w ∷ emit e k) (suc n) ≡ suc (size e) + span k n
+one-part : (w : ℕ) (e : Term)
+    → arity w ≡ 1
+    → Passed e
+    → (k : List ℕ) (n : ℕ)
+    → span (w ∷ emit e k) (suc n) ≡ suc (size e) + span k n
 unfolding span
 one-part w e one he k n = rw (one, one-add n) (omega (arith, he k n))
 

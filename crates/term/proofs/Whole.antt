@@ -33,7 +33,8 @@ outcome-map (ok a) f = refl
 outcome-map (refused r p) f = refl
 
 -- A word's test before the rest of a scan and of a skim.
-after-test : (x : Answer (Unit {0})) (y : Answer (List Term)) (f : List Term → List Term) (ks : List ℕ) (g : List ℕ → Answer ℕ) (h : ℕ → Answer (Unit {0}))
+after-test : (x : Answer (Unit {0})) (y : Answer (List Term)) (f : List Term → List Term)
+    (ks : List ℕ) (g : List ℕ → Answer ℕ) (h : ℕ → Answer (Unit {0}))
     → outcome y ≡ (g ks >>= h)
     → outcome (x >> (y >>= λ ts. ok (f ts))) ≡ (x >> ok ks >>= g >>= h)
 unfolding _>>=_ _>>_

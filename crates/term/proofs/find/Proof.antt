@@ -45,7 +45,8 @@ part-span-start-2 c = inhabited _ (is-term (c .before .before .before .before .b
 
 -- The first part ends within the words.
 second-within : (c : tie.After-span2)
-    → 1 + c .span2 .result ≤ length (c .before .before .before .before .before .before .before .before .before .before .before .before .args .term .now)
+    → let t = c .before .before .before .before .before .before .before .before in
+    1 + c .span2 .result ≤ length (t .before .before .before .before .args .term .now)
 second-within c =
     let t = c .before .before .before .before .before .before .before .before in
     let ws = t .before .before .before .before .args .term .now in
@@ -59,10 +60,11 @@ part-span-start-3 c = second-within c
 
 returns-3 : tie.Need-returns-3
 returns-3 c =
-    let p = c .before .before .before .before .before .before .before in
+    let tests = c .before .before .before .before in
+    let p = tests .before .before .before in
     rw
-    (c .before .before .before .before .before .if3 .taken, c .span3 .ensures .0, from-on, c .before .before .span2 .ensures .0, from-on)
-    (found-second _ (is-term (p .before .before .before)) (omega (arith, p .parts .ensures, c .before .before .before .before .if4 .taken)))
+    (tests .before .if3 .taken, c .span3 .ensures .0, from-on, c .before .before .span2 .ensures .0, from-on)
+    (found-second _ (is-term (p .before .before .before)) (omega (arith, p .parts .ensures, tests .if4 .taken)))
 
 returns-4 : tie.Need-returns-4
 returns-4 c =

@@ -11,7 +11,9 @@ use Rattle.term.proofs.part.Statement.{statement}
 use Rattle.term.proofs.part.Tie as tie
 
 within : (c : tie.After-find) → c .find .result .start + c .find .result .length ≤ length (c .before .before .args .term .now)
-within c = subst (λ (f : Found). f .start + f .extent ≤ length (c .before .before .args .term .now)) (sym (c .find .ensures)) (found-within _ _)
+within c =
+    let ws = c .before .before .args .term .now in
+    subst (λ (f : Found). f .start + f .extent ≤ length ws) (sym (c .find .ensures)) (found-within _ _)
 
 add-end : tie.Need-add-end
 add-end c = omega (arith, within (c .before))

@@ -25,18 +25,20 @@ loop-holds c = (omega arith, refl, cleared-none (now (c .before .args .work)))
 
 loop-again : tie.Need-loop-again Inv-loop μ-loop
 loop-again c =
-    let work = now (c .before .before .before .before .before .before .before .args .work) in
-    let from = 512 * c .before .before .before .before .before .loop .block in
-    let l : from + 512 ≤ length work = omega arith in
-    let e : from + 512 ≡ 512 * (c .before .before .before .before .before .loop .block + 1) = omega arith in
+    let start = c .before .before .before .before .before in
+    let work = now (start .before .before .args .work) in
+    let l = start .loop in
+    let from = 512 * l .block in
+    let inside : from + 512 ≤ length work = omega arith in
+    let next : from + 512 ≡ 512 * (l .block + 1) = omega arith in
     let h : c .if1 .work ≡ cleared (from + 512) work =
-    cleared-more from (from + 512) work (omega arith) l (c .before .before .before .before .before .loop .inv .2)
+    cleared-more from (from + 512) work (omega arith) inside (l .inv .2)
     (⊎-elim
-    (λ w. w .5 ∙ ap (putMid from (from + 512 - from) (c .before .before .before .before .before .loop .work)) (w .2 .ensures))
-    (λ w. w .1 ∙ part-clear from (from + 512 - from) (c .before .before .before .before .before .loop .work) (c .before .is-clear .ensures .0 (not-false _ (w .0 .left))))
+    (λ w. w .5 ∙ ap (putMid from (from + 512 - from) (l .work)) (w .2 .ensures))
+    (λ w. w .1 ∙ part-clear from (from + 512 - from) (l .work) (c .before .is-clear .ensures .0 (not-false _ (w .0 .left))))
     (c .if1 .came))
     in
-    (omega arith, ap length h ∙ cleared-length (from + 512) work l, h ∙ ap (λ k. cleared k work) e)
+    (omega arith, ap length h ∙ cleared-length (from + 512) work inside, h ∙ ap (λ k. cleared k work) next)
 
 same-length : tie.Need-same-length Inv-loop μ-loop
 same-length c = c .before .loop .inv .1

@@ -7,7 +7,7 @@ use borrow.Author.Needs.{needs}
 use types.Run.{OneOf}
 use Rattle.calculus.specs.Reading.{binds, meaning}
 use Rattle.term.specs.Word.{meaning-of}
-use Rattle.term.proofs.Visits.{tag, Arm, arm}
+use Rattle.term.proofs.Visits.{tag, Each, Row, arm}
 use Rattle.reduction.specs.Rewriting.{shape-of}
 use Rattle.reduction.proofs.Shapes.{variable-index, no-variable}
 use Rattle.reduction.proofs.rewriting.shape_of.Statement.{statement}
@@ -15,7 +15,7 @@ use Rattle.reduction.proofs.rewriting.shape_of.Tie as tie
 
 -- What an arm says of the word, whose variants are no variables and have the parts `ks`.
 known : (c : tie.After-classify) (ks tags : List ℕ)
-    → Arm ks tags
+    → Each (Row ks) tags
     → OneOf tags (tag (c .classify .result))
     → (c .before .args .word < 16) × (binds (meaning (c .before .args .word)) ≡ ks)
 known c ks tags each one =
@@ -48,7 +48,7 @@ returns-4 c =
 returns-5 : tie.Need-returns-5
 unfolding shape-of
 returns-5 c =
-    let each : Arm (0 ∷ 1 ∷ []) (4 ∷ 6 ∷ 5 ∷ []) = ((tt, refl), ((tt, refl), ((tt, refl), tt))) in
+    let each : Each (Row (0 ∷ 1 ∷ [])) (4 ∷ 6 ∷ 5 ∷ []) = ((tt, refl), ((tt, refl), ((tt, refl), tt))) in
     let (small, parts) = known (c .before) (0 ∷ 1 ∷ []) (4 ∷ 6 ∷ 5 ∷ []) each (c .match .keys5) in
     (small, parts, omega arith)
 

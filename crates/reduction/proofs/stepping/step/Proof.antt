@@ -8,7 +8,9 @@ use Rattle.reduction.proofs.Placing.{value-stays, stuck-stays}
 use Rattle.reduction.proofs.stepping.step.Statement.{statement}
 use Rattle.reduction.proofs.stepping.step.Tie as tie
 
-located : (c : tie.After-find-redex) {r : Redex} → c .find-redex .result ≡ r → Located (c .before .before .before .args .state .now) r
+located : (c : tie.After-find-redex) {r : Redex}
+    → c .find-redex .result ≡ r
+    → Located (c .before .before .before .args .state .now) r
 located c told =
     let p = c .before .before .before .pre in
     (p .term, p .coded, sym (c .find-redex .ensures (p .term) (p .coded)) ∙ told)

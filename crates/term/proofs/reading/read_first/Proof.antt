@@ -15,7 +15,8 @@ use Rattle.term.proofs.reading.read_first.Statement.{statement}
 use Rattle.term.proofs.reading.read_first.Tie as tie
 
 abbrev Inv-loop : tie.InvT-loop
-Inv-loop words rooms₀ scopes₀ waiting₀ at₀ room₀ binders₀ rooms scopes waiting at room binders = Stands words rooms scopes waiting at room binders
+Inv-loop words rooms₀ scopes₀ waiting₀ at₀ room₀ binders₀ rooms scopes waiting at room binders =
+    Stands words rooms scopes waiting at room binders
 
 abbrev μ-loop : tie.MeasureT-loop
 μ-loop words rooms₀ scopes₀ waiting₀ at₀ room₀ binders₀ rooms scopes waiting at room binders = length words - at
@@ -28,7 +29,9 @@ seen : (c : tie.After-tested Inv-loop μ-loop) {v : Visit}
     (getD (c .before .before .before .before .before .args .words .now) (c .before .before .before .loop .at) 0)
     (pending (c .before .before .before .loop .room) (c .before .before .before .loop .binders))
     (c .before .before .before .loop .at)
-seen c e = ap (λ v. visit-of v (c .before .before .before .loop .at)) (sym e) ∙ c .tested .ensures (c .before .before .before .loop .at)
+seen c e =
+    let at = c .before .before .before .loop .at in
+    ap (λ v. visit-of v at) (sym e) ∙ c .tested .ensures at
 
 -- The second part of a node, which is left pending, fits.
 second : (c : tie.After-known-told2 Inv-loop μ-loop)
@@ -51,7 +54,8 @@ returns c =
 returns-2 : tie.Need-returns-2 Inv-loop μ-loop
 returns-2 c =
     let i = c .before .before .before .before .before in
-    turn-last (i .before .loop .inv) (i .loop-test .taken) (c .if1 .taken) (seen (c .before .before .before) (c .before .enum-told .given .1))
+    let leaf = seen (c .before .before .before) (c .before .enum-told .given .1) in
+    turn-last (i .before .loop .inv) (i .loop-test .taken) (c .if1 .taken) leaf
 
 sub-waiting : tie.Need-sub-waiting Inv-loop μ-loop
 sub-waiting c = pos-of-ne-zero (c .if1 .left)

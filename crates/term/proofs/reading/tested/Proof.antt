@@ -1,34 +1,67 @@
 -- `tested` meets its contract: each return answers what the tests of a word with the meaning found there answer. The arms for
 -- several variants know the tag alone.
 use Prim.Native.Nat.{ℕ, _<_}
+use mathlib.Core.Bool.{not}
 use mathlib.Core.List.{List, [], _∷_}
 use mathlib.Core.Path.{_≡_, refl, sym, ap, _∙_}
 use native.Mathlib.Nat.{pos-of-ne-zero}
 use native.Mathlib.Omega.{arith}
 use borrow.Author.Needs.{needs}
-use lib.Dec.{lit<, lt→ltb}
+use lib.Dec.{T, eqb, lt→ltb}
 use types.Run.{OneOf}
 use Rattle.calculus.specs.Answer.{ok}
 use Rattle.calculus.specs.Reading.{means, bound, binds}
 use Rattle.term.specs.declared.word.Meaning.{Meaning}
 use Rattle.term.specs.Word.{meaning-of}
 use Rattle.term.specs.Subterms.{pending, visited}
-use Rattle.term.proofs.Visits.{meaningless, too-deep, outside, passes, tag, at-one, meant, Arm, arm}
+use Rattle.term.proofs.Visits.{meaningless, too-deep, outside, passes, tag, at-one, meant, Each, Row, arm}
 use Rattle.term.proofs.reading.tested.Statement.{statement}
 use Rattle.term.proofs.reading.tested.Tie as tie
 
--- Below the tag of the variant that means nothing.
-something : (m : Meaning) → OneOf (0 ∷ 1 ∷ 2 ∷ 3 ∷ 4 ∷ 5 ∷ 6 ∷ 7 ∷ []) (tag m) → tag m < 8
+-- A variant behind the first test is another than the one that means nothing.
+something : (m : Meaning) → OneOf (0 ∷ 1 ∷ 2 ∷ 3 ∷ 4 ∷ 5 ∷ 6 ∷ 7 ∷ []) (tag m) → T (not (eqb (tag m) 8))
 something m =
     at-one
-    (λ t. t < 8)
+    (λ t. T (not (eqb t 8)))
     (0 ∷ 1 ∷ 2 ∷ 3 ∷ 4 ∷ 5 ∷ 6 ∷ 7 ∷ [])
-    (lit< tt, (lit< tt, (lit< tt, (lit< tt, (lit< tt, (lit< tt, (lit< tt, (lit< tt, tt))))))))
+    (tt, (tt, (tt, (tt, (tt, (tt, (tt, (tt, tt))))))))
     (tag m)
+
+returns : tie.Need-returns
+returns c p = meaningless _ _ _ p (sym (c .before .before .classify .ensures)) (ap meaning-of (c .enum-told .given .1))
+
+returns-2 : tie.Need-returns-2
+returns-2 c p =
+    let known = c .before .before .classify in
+    too-deep _ _ _ p (sym (known .ensures)) (meant (known .result) (something (known .result) (c .before .match .keys2))) (c .if1 .taken)
+
+returns-3 : tie.Need-returns-3
+returns-3 c p =
+    let found = c .before .before .before in
+    outside
+    _ _ _ p
+    (sym (found .before .before .before .before .classify .ensures))
+    (ap meaning-of (found .meaning .given .1))
+    (pos-of-ne-zero (found .before .before .if1 .left))
+    (omega (arith, c .before .wide .ensures))
+
+returns-4 : tie.Need-returns-4
+unfolding means bound binds
+returns-4 c p =
+    let found = c .before .before .before in
+    let seen = found .before .before .before .before in
+    let inside : found .meaning .given .0 .0 < seen .before .args .binders = omega (arith, c .before .wide .ensures) in
+    passes
+    _ _ _ p
+    (sym (seen .classify .ensures) ∙ ap meaning-of (found .meaning .given .1))
+    tt
+    (pos-of-ne-zero (found .before .before .if1 .left))
+    (lt→ltb _ _ inside)
+    refl
 
 -- What an arm of the second match answers, whose variants are no variables and have the parts `ks`.
 answered : (c : tie.Else1) (ks tags : List ℕ)
-    → Arm ks tags
+    → Each (Row ks) tags
     → OneOf tags (tag (c .before .before .classify .result))
     → let a = c .before .before .before .args in
     (p : ℕ)
@@ -43,36 +76,6 @@ answered c ks tags each one p =
     (pos-of-ne-zero (c .if1 .left))
     (v .inside _)
     (v .parts)
-
-returns : tie.Need-returns
-returns c p = meaningless _ _ _ p (sym (c .before .before .classify .ensures)) (ap meaning-of (c .enum-told .given .1))
-
-returns-2 : tie.Need-returns-2
-returns-2 c p =
-    let known = c .before .before .classify in
-    too-deep _ _ _ p (sym (known .ensures)) (meant (known .result) (something (known .result) (c .before .match .keys2))) (c .if1 .taken)
-
-returns-3 : tie.Need-returns-3
-returns-3 c p =
-    outside
-    _ _ _ p
-    (sym (c .before .before .before .before .before .before .before .classify .ensures))
-    (ap meaning-of (c .before .before .before .meaning .given .1))
-    (pos-of-ne-zero (c .before .before .before .before .before .if1 .left))
-    (omega (arith, c .before .wide .ensures))
-
-returns-4 : tie.Need-returns-4
-unfolding means bound binds
-returns-4 c p =
-    let inside : c .before .before .before .meaning .given .0 .0 < c .before .before .before .before .before .before .before .before .args .binders =
-    omega (arith, c .before .wide .ensures) in
-    passes
-    _ _ _ p
-    (sym (c .before .before .before .before .before .before .before .classify .ensures) ∙ ap meaning-of (c .before .before .before .meaning .given .1))
-    tt
-    (pos-of-ne-zero (c .before .before .before .before .before .if1 .left))
-    (lt→ltb _ _ inside)
-    refl
 
 returns-5 : tie.Need-returns-5
 returns-5 c = answered (c .before .before) (0 ∷ []) (1 ∷ []) ((tt, refl), tt) (c .before .match2 .keys2)

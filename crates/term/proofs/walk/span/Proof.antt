@@ -24,12 +24,15 @@ loop-holds c = (omega arith, omega arith, sym (zero-add _))
 returns : tie.Need-returns Inv-loop μ-loop
 returns c =
     let i = c .before .before .loop in
-    let none : span (drop (i .at) (c .before .before .before .before .args .words .now)) (i .left) ≡ 0 = rw (c .if1 .taken) (span-none _) in
+    let ws = c .before .before .before .before .args .words .now in
+    let none : span (drop (i .at) ws) (i .left) ≡ 0 = rw (c .if1 .taken) (span-none _) in
     (omega (arith, i .inv .2), i .inv .0)
 
 -- The word at hand.
 abbrev word : tie.After-parts Inv-loop μ-loop → ℕ
-word c = getD (c .before .before .before .before .before .before .before .args .words .now) (c .before .before .before .before .before .loop .at) 0
+word c =
+    let l = c .before .before .before .before .before in
+    getD (l .before .before .args .words .now) (l .loop .at) 0
 
 add-left : tie.Need-add-left Inv-loop μ-loop
 add-left c = omega (arith, c .parts .ensures, two-at-most (word c))
@@ -42,14 +45,18 @@ loop-again c =
     let i = c .before .before .before .before .before in
     let inside = c .before .before .before .before .loop-test .taken in
     let some = pos-of-ne-zero (c .before .before .before .if1 .left) in
-    let step = span-step (i .before .before .args .words .now) (i .loop .at) (i .loop .left) inside some in
-    (omega arith, omega (arith, c .parts .ensures, two-at-most (word c)), rw (c .parts .ensures) (omega (arith, i .loop .inv .2, step)))
+    let step = span-step (i .before .before .args .words .now) (i .loop .at) (i .loop .left) inside some in (
+      omega arith,
+      omega (arith, c .parts .ensures, two-at-most (word c)),
+      rw (c .parts .ensures) (omega (arith, i .loop .inv .2, step)),
+    )
 
 returns-2 : tie.Need-returns-2 Inv-loop μ-loop
 unfolding span
 returns-2 c =
     let i = c .before .loop in
-    let none : span (drop (i .at) (c .before .before .before .args .words .now)) (i .left) ≡ 0 = rw (drop-of-length-le _ (c .loop-test .left)) refl in
+    let ws = c .before .before .before .args .words .now in
+    let none : span (drop (i .at) ws) (i .left) ≡ 0 = rw (drop-of-length-le _ (c .loop-test .left)) refl in
     (omega (arith, i .inv .2), i .inv .0)
 
 pub span-spec : {M : Type 1} → statement M

@@ -26,7 +26,10 @@ module _ {s : Shape} (w : ℕ) where
   unfolding shape-of
   two-word e h = let told = rw e at h in (told .1, told .2)
 
-pub node-word : (s : Shape) (w : ℕ) → shape-of s w → (tagOf the-type s ≡ 1) ⊎ ((tagOf the-type s ≡ 2) ⊎ (tagOf the-type s ≡ 3)) → w < 16
+pub node-word : (s : Shape) (w : ℕ)
+    → shape-of s w
+    → (tagOf the-type s ≡ 1) ⊎ ((tagOf the-type s ≡ 2) ⊎ (tagOf the-type s ≡ 3))
+    → w < 16
 unfolding shape-of
 node-word (shape.Variable i) w h k = absurd (⊎-elim (λ e. omega arith) (⊎-elim (λ e. omega arith) (λ e. omega arith)) k)
 node-word shape.Leaf w h k = h .0

@@ -37,7 +37,8 @@ module _ (t : ℕ) where
   same-length-5 c =
       let call = c .before .before .before .before in
       let found = call .before .before .before .before in
-      call .rewrite .kept .1 .1 .1 .1 .0 ∙ simp length-set (turn-length (found .before .before .before .before .before .before .before .loop .inv))
+      let turn = found .before .before .before .before .before .before .before .loop .inv in
+      call .rewrite .kept .1 .1 .1 .1 .0 ∙ simp length-set (turn-length turn)
 
   pub returns-5 : lts.Need-returns-5 (rewrite-claims t) (rewrite-at t) reads.Post Inv-loop μ-loop
   returns-5 c =
@@ -83,4 +84,6 @@ module _ (t : ℕ) where
       let more = s .before .before .loop-test .taken in
       let r = rewrote-of (call .rewrite .ensures) (c .before .more .given .1) in
       let w = rw from-on at (r .1) in
-      rw (rw from-on at (r .0)) (turn-two turn more (still t (node .before)) (node .if1 .left) (two t found .0) (two t found .1) w)
+      rw
+      (rw from-on at (r .0))
+      (turn-two turn more (still t (node .before)) (node .if1 .left) (two t found .0) (two t found .1) w)

@@ -45,7 +45,8 @@ module _ (t : ℕ) where
   same-length : lts.Need-same-length (rewrite-claims t) (rewrite-at t) reads.Post Inv-loop μ-loop
   same-length c =
       let call = c .before .before .before .before in
-      call .rewrite-variable .kept .1 .1 .1 .1 .0 ∙ turn-length (call .before .before .before .before .before .before .before .before .loop .inv)
+      let turn = call .before .before .before .before .before .before .before .before .loop .inv in
+      call .rewrite-variable .kept .1 .1 .1 .1 .0 ∙ turn-length turn
 
   returns : lts.Need-returns (rewrite-claims t) (rewrite-at t) reads.Post Inv-loop μ-loop
   returns c =
@@ -60,7 +61,8 @@ module _ (t : ℕ) where
   same-length-2 : lts.Need-same-length-2 (rewrite-claims t) (rewrite-at t) reads.Post Inv-loop μ-loop
   same-length-2 c =
       let call = c .before .before .before .before .before in
-      call .rewrite-variable .kept .1 .1 .1 .1 .0 ∙ turn-length (call .before .before .before .before .before .before .before .before .loop .inv)
+      let turn = call .before .before .before .before .before .before .before .before .loop .inv in
+      call .rewrite-variable .kept .1 .1 .1 .1 .0 ∙ turn-length turn
 
   returns-2 : lts.Need-returns-2 (rewrite-claims t) (rewrite-at t) reads.Post Inv-loop μ-loop
   returns-2 c =

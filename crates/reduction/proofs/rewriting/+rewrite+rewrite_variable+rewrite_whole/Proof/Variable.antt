@@ -1,6 +1,6 @@
 -- `rewrite_variable` meets its contract: what each arm writes is what stands for the variable. A closed argument is the same
 -- raised by 0 as by the binders around, and raising by 0 is copying.
-use Prim.Native.Nat.{ℕ, _+_, _≤_}
+use Prim.Native.Nat.{ℕ, _+_, _≤_, _<_}
 use mathlib.Core.Logic.{⊎-elim}
 use mathlib.Core.Path.{_≡_, sym, ap, subst, _∙_}
 use native.Mathlib.Omega.{arith}
@@ -25,7 +25,9 @@ module _ (t : ℕ) where
         let same : 16 + a .index ≡ 16 + a .depth = omega (arith, c .if2 .left, free .if1 .left) in
         changed-put (c .before .before .change2 .given .1) (a .argument .now) (a .depth) (16 + a .index) same
 
-    bounded : Bounded (change.Put (c .before .before .change2 .given .0 .0)) (c .before .before .before .before .before .before .before .args .argument .now)
+    bounded :
+        let start = c .before .before .before .before .before .before .before in
+        Bounded (change.Put (c .before .before .change2 .given .0 .0)) (start .args .argument .now)
     bounded =
         let start = c .before .before .before .before .before .before .before in
         subst (λ x. Bounded x (start .args .argument .now)) (c .before .before .change2 .given .1) (start .pre .1 .3)
@@ -69,8 +71,9 @@ module _ (t : ℕ) where
       let above = c .before .before .before .before in
       let found = above .before .before in
       let a = found .before .before .before .before .before .args in
+      let higher : 16 + a .depth < 16 + a .index = omega (arith, above .if2 .taken) in
       rw
-      (changed-lowered (found .change2 .given .1) (a .argument .now) (a .depth) (16 + a .index) (omega (arith, above .if2 .taken)))
+      (changed-lowered (found .change2 .given .1) (a .argument .now) (a .depth) (16 + a .index) higher)
       (c .before .before .put3 .ensures)
 
   returns-3 : lts.Need-returns-3 (rewrite-variable-claims t) (rewrite-variable-at t) reads.Post
