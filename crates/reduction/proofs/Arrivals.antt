@@ -1,10 +1,11 @@
--- The next state is written in order: what stands before the redex, what it steps to, what stands behind. The last call that writes
--- gives the answer for all of it; where a call before it lacks room, so does the whole.
-use Prim.Native.Nat.{ℕ, _+_, _-_, _≤_}
+-- The next state is written in order: what stands before the redex, what it steps to, what stands behind. The last call that
+-- writes gives the answer for all of it; where a call before it lacks room, so does the whole.
+use Prim.Native.Nat.{ℕ, _-_, _≤_}
 use mathlib.Core.List.{List, _++_}
 use mathlib.Core.Path.{_≡_, refl, sym, ap, _∙_, subst}
+use native.Mathlib.Nat.{zero-add}
 use native.Mathlib.Omega.{arith}
-use lib.ListN.{length, take, drop, length-append}
+use lib.ListN.{length, take, drop}
 use Rattle.term.proofs.Finding.{from-on}
 use Rattle.reduction.specs.declared.copying.Room.{Room}
 use Rattle.reduction.specs.declared.copying.Room.the-variants as room
@@ -12,8 +13,7 @@ use Rattle.reduction.specs.declared.stepping.Stepped.{Stepped}
 use Rattle.reduction.specs.declared.stepping.Stepped.the-variants as stepped
 use Rattle.reduction.specs.Writing.{Writes}
 use Rattle.reduction.specs.Stepping.{Arrives, Finishes}
-use Rattle.reduction.proofs.Stores.{sets-append}
-use Rattle.reduction.proofs.Wrote.{Wrote, Lacked, length-wrote}
+use Rattle.reduction.proofs.Wrote.{Wrote, Lacked, length-wrote, written-then}
 
 abbrev pub answer : Room → Stepped
 answer (room.To n) = stepped.To n
@@ -26,7 +26,7 @@ pub finishes : {e out : List ℕ} {at : ℕ} {r : Room} {s : Stepped} {after : L
 finishes w same =
     record {
       fits = λ h. (sym same ∙ ap answer (w .fits h .0), w .fits h .1);
-      full = λ h. sym same ∙ ap answer (w .full h .0);
+      full = λ h. (sym same ∙ ap answer (w .full h .0), w .full h .1);
     }
 
 pub arrives-short : {e out last after : List ℕ} → Lacked e out 0 last → Arrives e out stepped.Full after
@@ -35,19 +35,16 @@ arrives-short l = record { fits = λ h. absurd (omega arith); full = λ h. refl 
 pub next-within : {e out after : List ℕ} {at next : ℕ} → Wrote e out at next after → next ≤ length after
 next-within w = omega (arith, w .place, w .room, length-wrote w)
 
+from-front : {e out : List ℕ} {s : Stepped} {after : List ℕ} → Finishes e out 0 s after → Arrives e out s after
+from-front {e} f =
+    record {
+      fits = λ h. let g = f .fits (omega arith) in (g .0 ∙ ap stepped.To (zero-add (length e)), g .1);
+      full = λ h. f .full (omega arith) .0;
+    }
+
 pub arrives : {e out mid after : List ℕ} {n : ℕ} {s : Stepped} (ws : List ℕ) (p : ℕ)
     → Wrote e out 0 n mid
     → Finishes (take (length ws - p) (drop p ws)) mid n s after
     → Arrives (e ++ drop p ws) out s after
-arrives {e} {out} {mid} {after} {n} {s} ws p w finished =
-    record {
-      fits = λ h. let g = f .fits (omega (arith, length-append e (drop p ws), length-wrote w)) in
-          (g .0 ∙ ap stepped.To count, g .1 ∙ rw (w .place, w .stored, sets-append out 0 e (drop p ws)) refl);
-      full = λ h. f .full (omega (arith, length-append e (drop p ws), length-wrote w));
-    }
-  where
-    f : Finishes (drop p ws) mid n s after
-    f = subst (λ l. Finishes l mid n s after) (from-on ws p) finished
-
-    count : n + length (drop p ws) ≡ length (e ++ drop p ws)
-    count = omega (arith, length-append e (drop p ws), w .place)
+arrives {mid = mid} {after} {n} {s} ws p w finished =
+    from-front (written-then w (subst (λ l. Finishes l mid n s after) (from-on ws p) finished))

@@ -1,4 +1,5 @@
--- What the two words that decide say of the redex, as the code sees them: the meaning of each is known by the number of its variant.
+-- The redex as the code finds it. Of the two words that decide, the code knows the numbers of their variants; these are the kinds
+-- of the words, by which the redex is decided.
 use Prim.Native.Nat.{ℕ, zero, suc, _-_, _<_}
 use mathlib.Core.List.{List, []}
 use mathlib.Core.Path.{_≡_, refl, sym, ap, _∙_}
@@ -30,9 +31,12 @@ by-place zero w p root inner = root refl
 by-place (suc n) w p root inner =
     ap (λ b. getD (framed (suc n) b p) w Stuck) (sym (sub-one (suc n))) ∙ inner λ z. omega arith
 
-module _ {ws : List ℕ} {at : ℕ} {r : Redex}
-    (m : Meaning) (ks : List ℕ) (counted : at ≡ heads ws)
-    (known : meaning-of m ≡ meaning (getD ws at 0)) (one : OneOf ks (tag m)) where
+-- The word at `at`, behind the leading down casts and applications, means `m`.
+pub record Decides (ws : List ℕ) (at : ℕ) (m : Meaning) : Type 0 where
+  pub counted : at ≡ heads ws
+  pub known : meaning-of m ≡ meaning (getD ws at 0)
+
+module _ {ws : List ℕ} {at : ℕ} {m : Meaning} {r : Redex} (d : Decides ws at m) (ks : List ℕ) (one : OneOf ks (tag m)) where
   pub found : (at ≡ 0 → Each (λ k. getD outermost k Stuck ≡ r) ks)
       → ((at ≡ 0 → ⊥) → Each (λ k. getD (framed at (at - 1) (kind (getD ws (at - 1) 0))) k Stuck ≡ r) ks)
       → (t : Term)
@@ -48,13 +52,13 @@ module _ {ws : List ℕ} {at : ℕ} {r : Redex}
       p = kind (getD ws (at - 1) 0)
 
       at-root : at ≡ 0 → getD outermost w Stuck ≡ r
-      at-root z = kind-among (λ k. getD outermost k Stuck ≡ r) m (getD ws at 0) ks known one (root z)
+      at-root z = kind-among (λ k. getD outermost k Stuck ≡ r) m (getD ws at 0) ks (d .known) one (root z)
 
       at-inner : (at ≡ 0 → ⊥) → getD (framed at (at - 1) p) w Stuck ≡ r
-      at-inner n = kind-among (λ k. getD (framed at (at - 1) p) k Stuck ≡ r) m (getD ws at 0) ks known one (inner n)
+      at-inner n = kind-among (λ k. getD (framed at (at - 1) p) k Stuck ≡ r) m (getD ws at 0) ks (d .known) one (inner n)
 
       same : decide at w p ≡ decided (words t)
-      same = rw (sub-one at, counted, coded) refl
+      same = rw (sub-one at, d .counted, coded) refl
 
   -- The same behind frames, where the word before is known too.
   pub found-framed : (before : Meaning) (js : List ℕ)
@@ -66,6 +70,5 @@ module _ {ws : List ℕ} {at : ℕ} {r : Redex}
       → ws ≡ words t
       → r ≡ locate t
   found-framed before js known-before one-before framing each =
-      found
-      (λ root. absurd (framing root))
-      (λ _. kind-among (λ p. Each (λ k. getD (framed at (at - 1) p) k Stuck ≡ r) ks) before (getD ws (at - 1) 0) js known-before one-before each)
+      let P : ℕ → Type 0 = λ p. Each (λ k. getD (framed at (at - 1) p) k Stuck ≡ r) ks in
+      found (λ root. absurd (framing root)) (λ _. kind-among P before (getD ws (at - 1) 0) js known-before one-before each)

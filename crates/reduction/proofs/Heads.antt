@@ -1,6 +1,6 @@
--- The redex by the words alone. The down casts and applications that the words begin with are counted; the kind of the next word and
--- of the word before it decide. By induction on the term: one frame more moves the place by one, and where the part is no frame
--- itself the two words at its front are those that decide.
+-- The redex by the words alone. The down casts and applications that the words begin with are counted; the kind of the next word
+-- and of the word before it decide. By induction on the term: one frame more moves the place by one, and where the part is no
+-- frame itself the two words at its front are those that decide.
 use Prim.Native.Nat.{ℕ, zero, suc, pred, _+_, _<_}
 use mathlib.Core.Bool.{Bool, true, false, cond}
 use mathlib.Core.List.{List, [], _∷_, map}
@@ -12,20 +12,31 @@ use lib.Seq.{drop-cons}
 use Rattle.calculus.specs.Term.{Term, var, star, app, lam, pi, castup, castdown, mu}
 use Rattle.calculus.specs.Words.{emit}
 use Rattle.calculus.specs.Reading.{meaning}
+use Rattle.term.proofs.Words.{from-seven}
 use Rattle.reduction.specs.Stepping.{deeper, at-application, at-castdown, locate, heads}
 use Rattle.reduction.specs.declared.stepping.Redex.{Redex}
 use Rattle.reduction.specs.declared.stepping.Redex.the-variants.{Value, Stuck, Beta, Cancel, Unfold}
-use Rattle.reduction.proofs.Frames.{Frame, applied-to, cast-down, tag}
+use Rattle.reduction.proofs.Frames.{Frame, applied-to, cast-down, frame-word}
 use Rattle.reduction.proofs.Redexes.{at-node}
-use Rattle.reduction.proofs.WordKinds.{kind, from-seven, framing, no-frame, framing-kind}
+use Rattle.reduction.proofs.WordKinds.{index, kind, framing, no-frame, framing-kind}
 
--- For each kind of word the redex: at place 0, and behind frames, where `n` is the place of the word, `b` that of the word before it
--- and `p` the kind of that.
+-- For each kind of word the redex: at place 0, and behind frames, where `n` is the place of the word, `b` that of the word before
+-- it and `p` the kind of that.
 abbrev pub outermost : List Redex
 outermost = Value ∷ Stuck ∷ Stuck ∷ Value ∷ Value ∷ Unfold 0 ∷ Value ∷ Stuck ∷ Stuck ∷ []
 
 abbrev pub framed : ℕ → ℕ → ℕ → List Redex
-framed n b p = Stuck ∷ Stuck ∷ Stuck ∷ cond (eqb p 1) (Cancel b) Stuck ∷ cond (eqb p 2) (Beta b) Stuck ∷ Unfold n ∷ Stuck ∷ Stuck ∷ Stuck ∷ []
+framed n b p =
+    Stuck
+    ∷ Stuck
+    ∷ Stuck
+    ∷ cond (eqb p 1) (Cancel b) Stuck
+    ∷ cond (eqb p 2) (Beta b) Stuck
+    ∷ Unfold n
+    ∷ Stuck
+    ∷ Stuck
+    ∷ Stuck
+    ∷ []
 
 abbrev row : ℕ → ℕ → List Redex
 row zero p = outermost
@@ -49,14 +60,20 @@ deeper-row n p = rw (deeper-cond (eqb p 1) (Cancel n), deeper-cond (eqb p 2) (Be
 
 deeper-decide : (n w p : ℕ) → deeper (decide (suc n) w p) Stuck ≡ decide (suc (suc n)) w p
 unfolding deeper
-deeper-decide n w p = sym (List·getD-map (λ r. deeper r Stuck) (row (suc n) p) w Stuck) ∙ ap (λ l. getD l w Stuck) (deeper-row n p)
+deeper-decide n w p =
+    sym (List·getD-map (λ r. deeper r Stuck) (row (suc n) p) w Stuck) ∙ ap (λ l. getD l w Stuck) (deeper-row n p)
 
-frame-inside : (f g : Frame) (ws : List ℕ) → deeper (decided (tag g ∷ ws)) Stuck ≡ decided (tag f ∷ tag g ∷ ws)
-unfolding tag heads
-frame-inside (applied-to u) (applied-to v) ws = deeper-decide (heads ws) (kind (getD ws (heads ws) 0)) (kind (getD (2 ∷ ws) (heads ws) 0))
-frame-inside (applied-to u) cast-down ws = deeper-decide (heads ws) (kind (getD ws (heads ws) 0)) (kind (getD (1 ∷ ws) (heads ws) 0))
-frame-inside cast-down (applied-to v) ws = deeper-decide (heads ws) (kind (getD ws (heads ws) 0)) (kind (getD (2 ∷ ws) (heads ws) 0))
-frame-inside cast-down cast-down ws = deeper-decide (heads ws) (kind (getD ws (heads ws) 0)) (kind (getD (1 ∷ ws) (heads ws) 0))
+heads-frame : (f : Frame) (ws : List ℕ) → heads (frame-word f ∷ ws) ≡ suc (heads ws)
+unfolding frame-word heads
+heads-frame (applied-to u) ws = refl
+heads-frame cast-down ws = refl
+
+frame-inside : (f g : Frame) (ws : List ℕ)
+    → deeper (decided (frame-word g ∷ ws)) Stuck ≡ decided (frame-word f ∷ frame-word g ∷ ws)
+frame-inside f g ws =
+    rw
+    (heads-frame f (frame-word g ∷ ws), heads-frame g ws)
+    (deeper-decide (heads ws) (kind (getD ws (heads ws) 0)) (kind (getD (frame-word g ∷ ws) (heads ws) 0)))
 
 -- A variable, by itself and in a frame.
 heads-variable : (i : ℕ) (k : List ℕ) → heads ((16 + i) ∷ k) ≡ 0
@@ -64,23 +81,25 @@ unfolding heads
 heads-variable i k = rw (no-frame (16 + i) (omega arith)) refl
 
 variable-decided : (i : ℕ) (k : List ℕ) → Stuck ≡ decided ((16 + i) ∷ k)
+unfolding kind
 variable-decided i k =
-    rw (heads-variable i k) (from-seven (λ w. Stuck ≡ decide 0 w w) (16 + i) (omega arith) refl refl)
+    rw (heads-variable i k) (from-seven (λ m. Stuck ≡ decide 0 (index m) (index m)) (16 + i) (omega arith) refl refl)
 
-variable-inside : (f : Frame) (i : ℕ) (k : List ℕ) → Stuck ≡ decided (tag f ∷ (16 + i) ∷ k)
-unfolding tag heads
-variable-inside (applied-to u) i k =
-    rw (no-frame (16 + i) (omega arith)) (from-seven (λ w. Stuck ≡ decide 1 w (kind 2)) (16 + i) (omega arith) refl refl)
-variable-inside cast-down i k =
-    rw (no-frame (16 + i) (omega arith)) (from-seven (λ w. Stuck ≡ decide 1 w (kind 1)) (16 + i) (omega arith) refl refl)
+variable-inside : (f : Frame) (i : ℕ) (k : List ℕ) → Stuck ≡ decided (frame-word f ∷ (16 + i) ∷ k)
+unfolding kind
+variable-inside f i k =
+    rw
+    (heads-frame f ((16 + i) ∷ k), heads-variable i k)
+    (from-seven (λ m. Stuck ≡ decide 1 (index m) (kind (frame-word f))) (16 + i) (omega arith) refl refl)
 
 fill-decided : (f : Frame) (t : Term) (k : List ℕ)
     → locate t ≡ decided (emit t k)
-    → deeper (locate t) (at-node f t) ≡ decided (tag f ∷ emit t k)
-unfolding emit heads locate deeper at-node at-application at-castdown tag kind meaning
+    → deeper (locate t) (at-node f t) ≡ decided (frame-word f ∷ emit t k)
+unfolding emit heads locate deeper at-node at-application at-castdown frame-word kind meaning
 fill-decided (applied-to u) (var i) k h = variable-inside (applied-to u) i k
 fill-decided (applied-to u) star k h = refl
-fill-decided (applied-to u) (app g s) k h = ap (λ r. deeper r Stuck) h ∙ frame-inside (applied-to u) (applied-to s) (emit g (emit s k))
+fill-decided (applied-to u) (app g s) k h =
+    ap (λ r. deeper r Stuck) h ∙ frame-inside (applied-to u) (applied-to s) (emit g (emit s k))
 fill-decided (applied-to u) (lam a e) k h = refl
 fill-decided (applied-to u) (pi a b) k h = refl
 fill-decided (applied-to u) (castup a e) k h = refl
@@ -96,7 +115,7 @@ fill-decided cast-down (castdown e) k h = ap (λ r. deeper r Stuck) h ∙ frame-
 fill-decided cast-down (mu a e) k h = refl
 
 pub located : (t : Term) (k : List ℕ) → locate t ≡ decided (emit t k)
-unfolding emit heads locate at-node tag kind meaning
+unfolding emit heads locate at-node frame-word kind meaning
 located (var i) k = variable-decided i k
 located star k = refl
 located (app f u) k = fill-decided (applied-to u) f (emit u k) (located f (emit u k))

@@ -1,7 +1,8 @@
--- Raising and substitution go through the words as the walk over subterms does: what is written for j + k subterms is what is written
--- for j, and then for k from behind them. So a node's word is followed by what its parts give, of which there are none, one or two.
+-- Raising and substitution go through the words as the walk over subterms does: what is written for j + k subterms is what is
+-- written for j, and then for k from behind them. So a node's word is followed by what its parts give, of which there are none,
+-- one or two.
 use Prim.Native.Nat.{ℕ, suc, _+_}
-use mathlib.Core.List.{List, [], _∷_, _++_, map, append-assoc, append-nil}
+use mathlib.Core.List.{List, [], _∷_, _++_, map, append-assoc}
 use mathlib.Core.Path.{_≡_, refl, sym, ap, _∙_}
 use native.Mathlib.Nat.{add-zero}
 use native.Mathlib.Omega.{arith}
@@ -36,26 +37,21 @@ module _ (f : ℕ → ℕ → List ℕ) where
       ap (λ r. f a w ++ r) (ap (rewritten f ws) (sym (append-assoc own cs ds)) ∙ rewritten-split ws (own ++ cs) ds)
       ∙ rw (depths-length w a cs) (sym (append-assoc (f a w) (rewritten f ws (own ++ cs)) behind))
 
-  -- A word under `d` binders and the words behind it.
-  module _ (w d : ℕ) (ws : List ℕ) where
-    pub rewritten-leaf : binds (meaning w) ≡ [] → rewritten f (w ∷ ws) (d ∷ []) ≡ f d w
+  -- A word under `d` binders, the words behind it, and the subterms that come after its own.
+  module _ (w d : ℕ) (ws ds : List ℕ) where
+    pub rewritten-leaf : binds (meaning w) ≡ [] → rewritten f (w ∷ ws) (d ∷ ds) ≡ f d w ++ rewritten f ws ds
     unfolding rewritten
-    rewritten-leaf none = rw (none, rewritten-none ws) (append-nil (f d w))
+    rewritten-leaf none = rw none refl
 
-    pub rewritten-one : binds (meaning w) ≡ 0 ∷ [] → rewritten f (w ∷ ws) (d ∷ []) ≡ f d w ++ rewritten f ws (d ∷ [])
+    pub rewritten-one : binds (meaning w) ≡ 0 ∷ [] → rewritten f (w ∷ ws) (d ∷ ds) ≡ f d w ++ rewritten f ws (d ∷ ds)
     unfolding rewritten
     rewritten-one one = rw (one, add-zero d) refl
 
     pub rewritten-two : {k : ℕ}
         → binds (meaning w) ≡ 0 ∷ k ∷ []
-        → rewritten f (w ∷ ws) (d ∷ []) ≡ f d w ++ rewritten f ws (d ∷ []) ++ rewritten f (drop (span ws 1) ws) ((d + k) ∷ [])
+        → rewritten f (w ∷ ws) (d ∷ ds) ≡ f d w ++ rewritten f ws (d ∷ (d + k) ∷ ds)
     unfolding rewritten
-    rewritten-two {k} two =
-        let first = rewritten f ws (d ∷ []) in
-        let second = rewritten f (drop (span ws 1) ws) ((d + k) ∷ []) in
-        rw
-        (two, add-zero d)
-        (ap (λ r. f d w ++ r) (rewritten-split ws (d ∷ []) ((d + k) ∷ [])) ∙ sym (append-assoc (f d w) first second))
+    rewritten-two two = rw (two, add-zero d) refl
 
 -- The same of the walk.
 module _ (w : ℕ) (ws : List ℕ) where

@@ -1,5 +1,5 @@
--- The redex in the words: where `locate` says, its words stand, and at place 0 nothing behind them. What it steps to, between the words
--- before it and those behind, is the next state of the whole, since the rest of the term stays as it is.
+-- The redex in the words: where `locate` says, its words stand, and at place 0 nothing behind them. What it steps to, between the
+-- words before it and those behind, is the next state of the whole, since the rest of the term stays as it is.
 use Prim.Native.Nat.{ℕ, _+_, _≤_}
 use mathlib.Core.List.{List, [], _++_}
 use mathlib.Core.Path.{_≡_, refl, sym, ap, _∙_, subst}
@@ -15,7 +15,7 @@ use Rattle.reduction.specs.declared.stepping.Stepped.{Stepped}
 use Rattle.reduction.specs.declared.stepping.Stepped.the-variants as stepped
 use Rattle.reduction.specs.Stepping.{Arrives, Located, Steps, locate}
 use Rattle.reduction.proofs.Frames.{Frame, plug, before, behind, words-plug, step-plug, scoped-inside, nothing-behind}
-use Rattle.reduction.proofs.Redexes.{Inside, Splits, splits}
+use Rattle.reduction.proofs.Redexes.{Inside, splits-at}
 
 -- The words `ws` have those of `s` at place `at`.
 pub record Placed (ws : List ℕ) (at : ℕ) (s : Term) : Type 0 where
@@ -23,7 +23,10 @@ pub record Placed (ws : List ℕ) (at : ℕ) (s : Term) : Type 0 where
   pub here : drop at ws ≡ emit s rest
   pub alone : at ≡ 0 → rest ≡ []
   pub scoped : (t : Term) → ws ≡ words t → (n : ℕ) → Scoped n t → Scoped n s
-  pub steps : (x t : Term) → step s ≡ next x → ws ≡ words t → (y : Term) × (step t ≡ next y) × (words y ≡ take at ws ++ emit x rest)
+  pub steps : (x t : Term)
+      → step s ≡ next x
+      → ws ≡ words t
+      → (y : Term) × (step t ≡ next y) × (words y ≡ take at ws ++ emit x rest)
 
 pub placed-within : {ws : List ℕ} {at : ℕ} {s : Term} → Placed ws at s → at + size s ≤ length ws
 placed-within {ws} {at} {s} p = omega (arith, length-drop at ws, ap length (p .here), emit-length s (p .rest), size-positive s)
@@ -51,19 +54,23 @@ placed {ws} {at} {s} t coded i =
     same : (t′ : Term) → ws ≡ words t′ → t′ ≡ plug fs s
     same t′ coded′ = words-injective t′ t (sym coded′ ∙ coded) ∙ i .whole
 
-pub beta-placed : {ws : List ℕ} {at : ℕ} → Located ws (redex.Beta at) → (a : Term) × (e : Term) × (u : Term) × Placed ws at (app (lam a e) u)
+pub beta-placed : {ws : List ℕ} {at : ℕ}
+    → Located ws (redex.Beta at)
+    → (a : Term) × (e : Term) × (u : Term) × Placed ws at (app (lam a e) u)
 beta-placed (t, coded, there) =
-    let (a, e, u, i) = subst (Splits t) there (splits t) in
+    let (a, e, u, i) = splits-at t there in
     (a, e, u, placed t coded i)
 
 pub unfold-placed : {ws : List ℕ} {at : ℕ} → Located ws (redex.Unfold at) → (a : Term) × (e : Term) × Placed ws at (mu a e)
 unfold-placed (t, coded, there) =
-    let (a, e, i) = subst (Splits t) there (splits t) in
+    let (a, e, i) = splits-at t there in
     (a, e, placed t coded i)
 
-pub cancel-placed : {ws : List ℕ} {at : ℕ} → Located ws (redex.Cancel at) → (a : Term) × (e : Term) × Placed ws at (castdown (castup a e))
+pub cancel-placed : {ws : List ℕ} {at : ℕ}
+    → Located ws (redex.Cancel at)
+    → (a : Term) × (e : Term) × Placed ws at (castdown (castup a e))
 cancel-placed (t, coded, there) =
-    let (a, e, i) = subst (Splits t) there (splits t) in
+    let (a, e, i) = splits-at t there in
     (a, e, placed t coded i)
 
 pub reaches : {ws l out after : List ℕ} {at : ℕ} {s x : Term} {r : Stepped} (p : Placed ws at s)
@@ -82,8 +89,8 @@ reaches {ws} {l} {out} {after} {at} {s} {x} {r} p h same a t coded =
 -- Where there is no redex, the term is a value or stuck.
 pub value-stays : (out : List ℕ) (t : Term) → locate t ≡ redex.Value → Steps (step t) out stepped.Value out
 unfolding Steps
-value-stays out t h = rw (subst (Splits t) h (splits t)) (refl, refl)
+value-stays out t h = rw (splits-at t h) (refl, refl)
 
 pub stuck-stays : (out : List ℕ) (t : Term) → locate t ≡ redex.Stuck → Steps (step t) out stepped.Stuck out
 unfolding Steps
-stuck-stays out t h = rw (subst (Splits t) h (splits t)) (refl, refl)
+stuck-stays out t h = rw (splits-at t h) (refl, refl)

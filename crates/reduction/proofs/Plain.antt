@@ -1,33 +1,34 @@
--- Words below 2,048: so is every part of them, and so are the words of a term in a short context, since an index is below the
--- context's length and the binders around it, of which there are fewer than words.
+-- Words below a bound: so is every part of them. The words of a term in a short context are below 2,048, since an index is below
+-- the context's length and the binders around it, of which there are fewer than words.
 use Prim.Native.Nat.{ℕ, zero, suc, _+_, _≤_, _<_}
 use mathlib.Core.List.{List, [], _∷_}
 use native.Mathlib.Omega.{arith}
 use lib.ListN.{length, take, drop, getD}
 use Rattle.calculus.specs.Term.{Term, var, star, app, lam, pi, castup, castdown, mu, size}
 use Rattle.calculus.specs.Words.{emit, words, Scoped}
-use Rattle.reduction.specs.Rewriting.{Plain}
+use Rattle.reduction.specs.Rewriting.{Below, Plain}
 
-pub plain-take : (n : ℕ) (ws : List ℕ) → Plain ws → Plain (take n ws)
-unfolding Plain
-plain-take zero ws h = tt
-plain-take (suc n) [] h = tt
-plain-take (suc n) (w ∷ ws) h = (h .0, plain-take n ws (h .1))
+module _ (b : ℕ) where
+  pub below-take : (n : ℕ) (ws : List ℕ) → Below b ws → Below b (take n ws)
+  unfolding Below
+  below-take zero ws h = tt
+  below-take (suc n) [] h = tt
+  below-take (suc n) (w ∷ ws) h = (h .0, below-take n ws (h .1))
 
-pub plain-drop : (n : ℕ) (ws : List ℕ) → Plain ws → Plain (drop n ws)
-unfolding Plain
-plain-drop zero ws h = h
-plain-drop (suc n) [] h = tt
-plain-drop (suc n) (w ∷ ws) h = plain-drop n ws (h .1)
+  pub below-drop : (n : ℕ) (ws : List ℕ) → Below b ws → Below b (drop n ws)
+  unfolding Below
+  below-drop zero ws h = h
+  below-drop (suc n) [] h = tt
+  below-drop (suc n) (w ∷ ws) h = below-drop n ws (h .1)
 
-pub plain-at : (ws : List ℕ) (i : ℕ) → Plain ws → i < length ws → getD ws i 0 < 2048
-unfolding Plain
-plain-at [] i h inside = absurd (omega arith)
-plain-at (w ∷ ws) zero h inside = h .0
-plain-at (w ∷ ws) (suc i) h inside = plain-at ws i (h .1) (omega arith)
+  pub below-at : (ws : List ℕ) (i : ℕ) → Below b ws → i < length ws → getD ws i 0 < b
+  unfolding Below
+  below-at [] i h inside = absurd (omega arith)
+  below-at (w ∷ ws) zero h inside = h .0
+  below-at (w ∷ ws) (suc i) h inside = below-at ws i (h .1) (omega arith)
 
 plain-emit : (t : Term) (n : ℕ) (k : List ℕ) → Scoped n t → n + size t ≤ 2032 → Plain k → Plain (emit t k)
-unfolding Plain emit Scoped size
+unfolding Below emit Scoped size
 plain-emit (var i) n k scoped short h = (omega arith, h)
 plain-emit star n k scoped short h = (omega arith, h)
 plain-emit (app f u) n k scoped short h =
@@ -48,5 +49,5 @@ plain-emit (mu a e) n k scoped short h =
     (omega arith, plain-emit a n (emit e k) (scoped .0) (omega arith) behind)
 
 pub plain-words : (n : ℕ) (t : Term) → Scoped n t → n + size t ≤ 2032 → Plain (words t)
-unfolding Plain words
+unfolding Below words
 plain-words n t scoped short = plain-emit t n [] scoped short tt

@@ -2,14 +2,14 @@
 -- redex of a part is the redex of the whole, one frame further in; where the part has none, the form of the part decides.
 use Prim.Native.Nat.{ℕ, suc}
 use mathlib.Core.List.{List, [], _∷_}
-use mathlib.Core.Path.{_≡_, refl, ap, _∙_}
+use mathlib.Core.Path.{_≡_, refl, ap, subst, _∙_}
 use lib.ListN.{length}
 use Rattle.calculus.specs.Term.{Term, var, star, app, lam, pi, castup, castdown, mu}
-use Rattle.calculus.specs.Step.{Next, value, stuck, under, applied, cancelled, step}
+use Rattle.calculus.specs.Step.{value, stuck, under, applied, cancelled, step}
 use Rattle.reduction.specs.Stepping.{deeper, at-application, at-castdown, locate}
 use Rattle.reduction.specs.declared.stepping.Redex.{Redex}
 use Rattle.reduction.specs.declared.stepping.Redex.the-variants.{Value, Stuck, Beta, Cancel, Unfold}
-use Rattle.reduction.proofs.Frames.{Frame, applied-to, cast-down, fill, plug, before}
+use Rattle.reduction.proofs.Frames.{Frame, applied-to, cast-down, fill, plug, before, steps-itself, step-fill}
 
 -- The part `s` of `t` stands at place `n` inside frames.
 pub record Inside (t : Term) (n : ℕ) (s : Term) : Type 0 where
@@ -32,14 +32,10 @@ one-further : (f : Frame) {t s : Term} {n : ℕ} → Inside t n s → Inside (fi
 unfolding plug before
 one-further f i = record { frames = f ∷ i .frames; whole = ap (fill f) (i .whole); place = ap suc (i .place) }
 
--- What `locate` and `step` say of the node itself.
+-- What `locate` says of the node itself.
 unfoldable pub at-node : Frame → Term → Redex
 at-node (applied-to u) t = at-application t
 at-node cast-down t = at-castdown t
-
-steps-itself : Frame → Term → Next
-steps-itself (applied-to u) t = applied t u
-steps-itself cast-down t = cancelled t
 
 node-splits : (f : Frame) (t : Term) → step (fill f t) ≡ steps-itself f t → Splits (fill f t) (at-node f t)
 unfolding fill at-node steps-itself at-application at-castdown applied cancelled
@@ -60,11 +56,6 @@ node-splits cast-down (castup a e) h = (a, e, outermost (castdown (castup a e)))
 node-splits cast-down (castdown e) h = h
 node-splits cast-down (mu a e) h = h
 
-step-fill : (f : Frame) (t : Term) → step (fill f t) ≡ under (fill f) (steps-itself f t) (step t)
-unfolding fill steps-itself step
-step-fill (applied-to u) t = refl
-step-fill cast-down t = refl
-
 fill-splits : (f : Frame) (t : Term) (r : Redex) → Splits t r → Splits (fill f t) (deeper r (at-node f t))
 unfolding deeper under
 fill-splits f t Value h = node-splits f t (step-fill f t ∙ ap (under (fill f) (steps-itself f t)) h)
@@ -73,7 +64,7 @@ fill-splits f t (Beta n) h = (h .0, h .1, h .2, one-further f (h .3))
 fill-splits f t (Cancel n) h = (h .0, h .1, one-further f (h .2))
 fill-splits f t (Unfold n) h = (h .0, h .1, one-further f (h .2))
 
-pub splits : (t : Term) → Splits t (locate t)
+splits : (t : Term) → Splits t (locate t)
 unfolding locate step fill at-node
 splits (var i) = refl
 splits star = refl
@@ -83,3 +74,6 @@ splits (pi a b) = refl
 splits (castup a e) = refl
 splits (castdown e) = fill-splits cast-down e (locate e) (splits e)
 splits (mu a e) = (a, e, outermost (mu a e))
+
+pub splits-at : (t : Term) {r : Redex} → locate t ≡ r → Splits t r
+splits-at t there = subst (Splits t) there (splits t)

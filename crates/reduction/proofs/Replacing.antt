@@ -1,9 +1,11 @@
--- S_BETA and S_MU put a term in for the outermost variable of a body, both parts of the redex. The state is short and its variables are
--- few, so its parts have the words that substitution asks for; and what is written is the next state.
+-- S_BETA and S_MU put a term in for the outermost variable of a body, and both stand in the redex. The state is short and its
+-- variables are few, so the words of both are as substitution asks; and the words before the redex, what is substituted and the
+-- words behind the redex are the next state.
 use Prim.Native.Nat.{ℕ, suc, _-_, _≤_}
 use mathlib.Core.Bool.{Bool, true}
 use mathlib.Core.List.{List, _++_, append-assoc}
 use mathlib.Core.Path.{_≡_, refl, sym, ap, _∙_, subst}
+use native.Mathlib.Nat.{le-refl}
 use native.Mathlib.Omega.{arith}
 use lib.ListN.{length, take, drop}
 use Rattle.calculus.specs.Term.{Term, size, substitute}
@@ -16,7 +18,8 @@ use Rattle.reduction.specs.declared.rewriting.Change.the-variants.{Put}
 use Rattle.reduction.specs.declared.stepping.Stepped.{Stepped}
 use Rattle.reduction.specs.Rewriting.{Bounded, Plain, instantiated}
 use Rattle.reduction.specs.Stepping.{Arrives, Codes, Steps}
-use Rattle.reduction.proofs.Rewritten.{instantiated-words, closed-raised, plain-words}
+use Rattle.reduction.proofs.Plain.{plain-words}
+use Rattle.reduction.proofs.Rewritten.{instantiated-words, closed-raised}
 use Rattle.reduction.proofs.Spans.{Spanned}
 use Rattle.reduction.proofs.Placing.{Placed, placed-within, reaches}
 
@@ -25,25 +28,27 @@ module _ {ws k : List ℕ} {n end : ℕ} {t : Term} {closed : Bool} (c : Codes w
   short = omega (arith, p .count, p .within, ap length (c .coded), words-length (c .term), c .short)
 
   -- What substitution asks of a body and of an argument.
-  body-fits : Scoped (suc deepest) t
+  part-fits : (d : ℕ)
+      → d ≤ suc deepest
+      → Scoped d t
       → (span (take (end - n) (drop n ws)) 1 ≡ length (take (end - n) (drop n ws)))
       × (length (take (end - n) (drop n ws)) ≤ 2048)
       × Plain (take (end - n) (drop n ws))
-  body-fits scoped =
-      rw (p .part)
-      (span-words t ∙ sym (words-length t), omega (arith, words-length t, short), plain-words (suc deepest) t scoped (omega (arith, short)))
+  part-fits d few scoped =
+      rw (p .part) (
+        span-words t ∙ sym (words-length t),
+        omega (arith, words-length t, short),
+        plain-words d t scoped (omega (arith, short)),
+      )
 
   argument-fits : Scoped deepest t → (closed ≡ true → Scoped 0 t) → Bounded (Put closed) (take (end - n) (drop n ws))
   unfolding Bounded
   argument-fits scoped shut =
-      rw (p .part) (
-        plain-words deepest t scoped (omega (arith, short)),
-        omega (arith, words-length t, short),
-        span-words t ∙ sym (words-length t),
-        λ is-closed. closed-raised t (shut is-closed),
-      )
+      let (walked, few, plain) = part-fits deepest (omega arith) scoped in
+      (plain, few, walked, rw (p .part) (λ is-closed. closed-raised t (shut is-closed)))
 
-module _ {ws k : List ℕ} {at i j m end : ℕ} {s e u : Term} (p : Placed ws at s) (b : Spanned ws i e k j) (v : Spanned ws m u (p .rest) end) where
+module _ {ws k : List ℕ} {at i j m end : ℕ} {s e u : Term}
+    (p : Placed ws at s) (b : Spanned ws i e k j) (v : Spanned ws m u (p .rest) end) where
   pub replaceable : {closed : Bool}
       → Codes ws closed
       → ((n : ℕ) → Scoped n s → Scoped (suc n) e)
@@ -57,7 +62,7 @@ module _ {ws k : List ℕ} {at i j m end : ℕ} {s e u : Term} (p : Placed ws at
   replaceable {closed} c in-body in-argument =
       let scoped : Scoped deepest s = p .scoped (c .term) (c .coded) deepest (c .scoped) in
       let shut : closed ≡ true → Scoped 0 u = λ is-closed. in-argument 0 (p .scoped (c .term) (c .coded) 0 (c .shut is-closed)) in
-      let (walked, short-body, plain) = body-fits c b (in-body deepest scoped) in
+      let (walked, short-body, plain) = part-fits c b (suc deepest) (le-refl _) (in-body deepest scoped) in
       (omega (arith, placed-within p), v .within, walked, short-body, plain, argument-fits c v (in-argument deepest scoped) shut)
 
   pub replaced : {out after : List ℕ} {r : Stepped}
@@ -66,7 +71,8 @@ module _ {ws k : List ℕ} {at i j m end : ℕ} {s e u : Term} (p : Placed ws at
       → (t : Term)
       → ws ≡ words t
       → Steps (step t) out r after
-  replaced {out} {after} {r} h a = reaches p h same (subst (λ l. Arrives l out r after) (append-assoc (take at ws) new (drop end ws)) a)
+  replaced {out} {after} {r} h a =
+      reaches p h same (subst (λ l. Arrives l out r after) (append-assoc (take at ws) new (drop end ws)) a)
     where
       new : List ℕ
       new = instantiated (take (end - m) (drop m ws)) (take (j - i) (drop i ws))

@@ -1,9 +1,9 @@
--- Raising and substitution on the words of a term are the words of the term raised and substituted. Both go through a term node by
--- node, and a node's word stands for itself, so all that is to be shown of either is what it makes of a variable. A closed term has no
--- variable that would be raised.
+-- Raising and substitution on the words of a term are the words of the term raised and substituted. Both go through a term node
+-- by node, and a node's word stands for itself, so all that is to be shown of either is what it makes of a variable. A closed
+-- term has no variable that would be raised.
 use Prim.Native.Nat.{ℕ, suc, _+_, _-_, _<_}
 use mathlib.Core.Bool.{true}
-use mathlib.Core.List.{List, [], _∷_, _++_}
+use mathlib.Core.List.{List, [], _∷_}
 use mathlib.Core.Path.{_≡_, refl, sym, ap, ap₂, _∙_}
 use native.Mathlib.Decide.{decLt, ℕ-discrete}
 use native.Mathlib.Nat.{add-zero}
@@ -14,11 +14,12 @@ use Rattle.calculus.specs.Term.{Term, var, star, app, lam, pi, castup, castdown
 use Rattle.calculus.specs.Words.{emit, words, Scoped}
 use Rattle.calculus.specs.Reading.{binds, meaning}
 use Rattle.calculus.proofs.Coding.{emit-append}
+use Rattle.term.proofs.Words.{no-binds}
 use Rattle.reduction.specs.declared.rewriting.Change.the-variants as change
 use Rattle.reduction.specs.Rewriting.{changed-word, instantiated, put-word, raised, raised-word, rewritten}
 use Rattle.reduction.proofs.Changes.{unchanged, changed-raised, changed-lowered, changed-put}
-use Rattle.reduction.proofs.Shapes.{no-binds}
-pub use Rattle.reduction.proofs.Plain.{plain-take, plain-drop, plain-at, plain-words}
+use Rattle.reduction.proofs.Passing.{rewritten-leaf, rewritten-one, rewritten-two}
+pub use Rattle.reduction.proofs.Plain.{plain-words}
 
 -- `f` does to words under so many binders what `h` does to terms.
 record Follows (f : ℕ → ℕ → List ℕ) (h : ℕ → Term → Term) : Type 0 where
@@ -36,20 +37,13 @@ module _ (f : ℕ → ℕ → List ℕ) (h : ℕ → Term → Term) (follows : F
   abbrev Rewrites-to : Term → Type 0
   Rewrites-to t = (d : ℕ) (k ds : List ℕ) → rewritten f (emit t k) (d ∷ ds) ≡ emit (h d t) (rewritten f k ds)
 
-  leaf : (w : ℕ) (k : List ℕ) (d : ℕ) (ds : List ℕ)
-      → binds (meaning w) ≡ []
-      → rewritten f (w ∷ k) (d ∷ ds) ≡ f d w ++ rewritten f k ds
-  unfolding rewritten
-  leaf w k d ds none = rw none refl
-
   one : (w : ℕ) (e : Term)
       → w < 16
       → binds (meaning w) ≡ 0 ∷ []
       → Rewrites-to e
       → (d : ℕ) (k ds : List ℕ)
       → rewritten f (w ∷ emit e k) (d ∷ ds) ≡ w ∷ emit (h d e) (rewritten f k ds)
-  unfolding rewritten
-  one w e small parts he d k ds = rw (parts, follows .of-word d w small, add-zero d, he d k ds) refl
+  one w e small parts he d k ds = rw (rewritten-one f w d (emit e k) ds parts, follows .of-word d w small, he d k ds) refl
 
   two : (w b : ℕ) (a e : Term)
       → w < 16
@@ -60,15 +54,17 @@ module _ (f : ℕ → ℕ → List ℕ) (h : ℕ → Term → Term) (follows : F
       → d + b ≡ c
       → (k ds : List ℕ)
       → rewritten f (w ∷ emit a (emit e k)) (d ∷ ds) ≡ w ∷ emit (h d a) (emit (h c e) (rewritten f k ds))
-  unfolding rewritten
   two w b a e small parts ha he d {c} below k ds =
-      rw (parts, follows .of-word d w small, add-zero d, below, ha d (emit e k) (c ∷ ds), he c k ds) refl
+      rw
+      (rewritten-two f w d (emit a (emit e k)) ds parts, follows .of-word d w small, below, ha d (emit e k) (c ∷ ds), he c k ds)
+      refl
 
   rewritten-emit : (t : Term) → Rewrites-to t
   unfolding emit meaning binds
   rewritten-emit (var i) d k ds =
-      leaf (16 + i) k d ds (no-binds (16 + i) (omega arith)) ∙ rw (follows .of-var d i) (sym (emit-append (h d (var i)) (rewritten f k ds)))
-  rewritten-emit star d k ds = leaf 0 k d ds refl ∙ rw (follows .of-word d 0 (omega arith), follows .of-star d) refl
+      rewritten-leaf f (16 + i) d k ds (no-binds (16 + i) (omega arith))
+      ∙ rw (follows .of-var d i) (sym (emit-append (h d (var i)) (rewritten f k ds)))
+  rewritten-emit star d k ds = rewritten-leaf f 0 d k ds refl ∙ rw (follows .of-word d 0 (omega arith), follows .of-star d) refl
   rewritten-emit (app g u) d k ds =
       two 2 0 g u (omega arith) refl (rewritten-emit g) (rewritten-emit u) d (add-zero d) k ds ∙ rw (follows .of-app d g u) refl
   rewritten-emit (lam a e) d k ds =
@@ -76,7 +72,8 @@ module _ (f : ℕ → ℕ → List ℕ) (h : ℕ → Term → Term) (follows : F
   rewritten-emit (pi a b) d k ds =
       two 5 1 a b (omega arith) refl (rewritten-emit a) (rewritten-emit b) d (add-one d) k ds ∙ rw (follows .of-pi d a b) refl
   rewritten-emit (castup a e) d k ds =
-      two 3 0 a e (omega arith) refl (rewritten-emit a) (rewritten-emit e) d (add-zero d) k ds ∙ rw (follows .of-castup d a e) refl
+      two 3 0 a e (omega arith) refl (rewritten-emit a) (rewritten-emit e) d (add-zero d) k ds
+      ∙ rw (follows .of-castup d a e) refl
   rewritten-emit (castdown e) d k ds =
       one 1 e (omega arith) refl (rewritten-emit e) d k ds ∙ rw (follows .of-castdown d e) refl
   rewritten-emit (mu a e) d k ds =

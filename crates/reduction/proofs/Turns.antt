@@ -1,6 +1,6 @@
 -- A turn of the loop that rewrites a subterm. What was written so far, followed by what the subterm at `read` gives under `depth`
--- binders, is the whole; so it stays when a node's word is written, and its first part, since the second is then what is left. What is
--- left is as deep as it has words at most, which bounds the depth.
+-- binders, is the whole; so it stays when a node's word is written, and its first part, since the second is then what is left.
+-- What is left is as deep as it has words at most, which bounds the depth.
 use Prim.Native.Nat.{ℕ, _+_, _≤_, _<_}
 use mathlib.Core.List.{List, [], _∷_, _++_, append-assoc, append-nil}
 use mathlib.Core.Path.{_≡_, refl, sym, ap, _∙_}
@@ -11,7 +11,7 @@ use lib.Seq.{drop-cons, drop-drop}
 use Rattle.calculus.specs.Reading.{binds, meaning}
 use Rattle.term.specs.Walk.{span}
 use Rattle.reduction.specs.Rewriting.{rewritten}
-use Rattle.reduction.proofs.Passing.{rewritten-leaf, rewritten-one, rewritten-two, span-leaf, span-one, span-two}
+use Rattle.reduction.proofs.Passing.{rewritten-none, rewritten-split, rewritten-leaf, rewritten-one, rewritten-two, span-leaf, span-one, span-two}
 use Rattle.reduction.proofs.Wrote.{Wrote, Lacked, wrote-both, wrote-lacked, lacked-more, length-wrote}
 
 -- The place that the loop has come to.
@@ -60,7 +60,9 @@ module _ {f : ℕ → ℕ → List ℕ} {source : List ℕ} {around : ℕ} {befo
       front : drop read source ≡ getD source read 0 ∷ drop (read + 1) source
       front = rw (add-one read) (drop-cons source read 0 more)
 
-      whole-here : rewritten f source (around ∷ []) ≡ h .written ++ rewritten f (getD source read 0 ∷ drop (read + 1) source) (depth ∷ [])
+      whole-here :
+          rewritten f source (around ∷ [])
+          ≡ h .written ++ rewritten f (getD source read 0 ∷ drop (read + 1) source) (depth ∷ [])
       whole-here = h .whole ∙ ap (λ ws. h .written ++ rewritten f ws (depth ∷ [])) front
 
       walked-here : span source 1 ≡ read + span (getD source read 0 ∷ drop (read + 1) source) 1
@@ -72,7 +74,10 @@ module _ {f : ℕ → ℕ → List ℕ} {source : List ℕ} {around : ℕ} {befo
         leaf-read = omega (arith, walked-here, span-leaf (getD source read 0) (drop (read + 1) source) none)
 
         leaf-whole : rewritten f source (around ∷ []) ≡ h .written ++ f depth (getD source read 0)
-        leaf-whole = whole-here ∙ ap (λ r. h .written ++ r) (rewritten-leaf f (getD source read 0) depth (drop (read + 1) source) none)
+        leaf-whole =
+            let w = getD source read 0 in
+            let ws = drop (read + 1) source in
+            whole-here ∙ rw (rewritten-leaf f w depth ws [] none, rewritten-none f ws, append-nil (f depth w)) refl
 
         pub leaf-wrote : {next : ℕ} {after : List ℕ}
             → Wrote (f depth (getD source read 0)) out at next after
@@ -109,7 +114,7 @@ module _ {f : ℕ → ℕ → List ℕ} {source : List ℕ} {around : ℕ} {befo
                 whole =
                     whole-here
                     ∙ rw
-                    (rewritten-one f w depth ws one, still)
+                    (rewritten-one f w depth ws [] one, still)
                     (sym (append-assoc (h .written) (w ∷ []) (rewritten f ws (depth ∷ []))));
                 walked = omega (arith, walked-here, span-one w ws one);
                 shallow = omega arith;
@@ -126,8 +131,12 @@ module _ {f : ℕ → ℕ → List ℕ} {source : List ℕ} {around : ℕ} {befo
                 ++ rewritten f ws (depth ∷ [])
                 ++ rewritten f (drop (span ws 1) ws) ((depth + k) ∷ [])
             two-whole =
+                let w = getD source read 0 in
+                let ws = drop (read + 1) source in
                 whole-here
-                ∙ rw (rewritten-two f (getD source read 0) depth (drop (read + 1) source) two, still) (simp append-assoc)
+                ∙ rw
+                (rewritten-two f w depth ws [] two, still, rewritten-split f ws (depth ∷ []) ((depth + k) ∷ []))
+                (simp append-assoc)
 
             pub part-lacked : {after : List ℕ}
                 → Lacked (rewritten f (drop (read + 1) source) (depth ∷ [])) (set out at (getD source read 0)) (at + 1) after

@@ -1,13 +1,13 @@
--- The kinds of words, one for each variant of the enum that a word is classified by, numbered as the variants are. Words below 7 have
--- a kind of their own; from 7 on a word is a variable or means nothing.
-use Prim.Native.Nat.{ℕ, zero, suc, _-_, _≤_}
-use mathlib.Core.Bool.{Bool, true, false, cond, _&&_}
-use mathlib.Core.List.{List, [], _∷_}
+-- The kinds of words, one for each variant of the enum that a word is classified by, numbered as the variants are: so what the
+-- code knows of a variant's number it knows of the word's kind. Words below 7 have a kind of their own; from 7 on a word is a
+-- variable or means nothing.
+use Prim.Native.Nat.{ℕ, _≤_}
+use mathlib.Core.Bool.{Bool, false, _&&_}
+use mathlib.Core.List.{List}
 use mathlib.Core.Path.{_≡_, refl, ap, _∙_, subst}
 use native.Mathlib.Omega.{arith}
 use borrow.Author.Tests.{le-leb, lt-leb}
-use lib.Dec.{ltb, leb}
-use lib.ListN.{List·getD-eq-default}
+use lib.Dec.{leb}
 use types.Run.{OneOf}
 use Rattle.calculus.specs.Reading as calculus
 use Rattle.calculus.specs.Reading.{a-star, a-castdown, an-app, a-castup, a-lam, a-pi, a-mu, a-variable, nothing, meaning}
@@ -15,6 +15,7 @@ use Rattle.term.specs.declared.word.Meaning.{Meaning}
 use Rattle.term.specs.declared.word.Meaning.the-variants.{Star, CastDown, Application, CastUp, Abstraction, Product, Recursion, Variable, Nothing}
 use Rattle.term.specs.Word.{meaning-of}
 use Rattle.term.proofs.Visits.{tag, Each, at-one}
+use Rattle.term.proofs.Words.{by-word, from-seven}
 
 abbrev pub index : calculus.Meaning → ℕ
 index a-star = 0
@@ -50,18 +51,6 @@ pub kind-among : (P : ℕ → Type 0) (m : Meaning) (w : ℕ) (ks : List ℕ)
 unfolding kind
 kind-among P m w ks known one each = subst P (tag-index m ∙ ap index known) (at-one P ks each (tag m) one)
 
-pub from-seven : (P : ℕ → Type 0) (w : ℕ) → 7 ≤ w → P 7 → P 8 → P (kind w)
-unfolding kind meaning
-from-seven P w low variable none = rw (List·getD-eq-default table nothing low) (go (ltb w 16) (ltb w 2048))
-  where
-    table : List calculus.Meaning
-    table = a-star ∷ a-castdown ∷ an-app ∷ a-castup ∷ a-lam ∷ a-pi ∷ a-mu ∷ []
-
-    go : (b c : Bool) → P (index (cond b nothing (cond c (a-variable (w - 16)) nothing)))
-    go true c = none
-    go false true = variable
-    go false false = none
-
 -- The test for a down cast or an application.
 abbrev pub framing : ℕ → Bool
 framing w = leb 1 w && leb w 2
@@ -71,14 +60,7 @@ no-frame w low = rw (le-leb 1 w (omega arith), lt-leb w 2 (omega arith)) refl
 
 pub framing-kind : (w : ℕ) → framing w ≡ framing (kind w)
 unfolding kind meaning
-framing-kind zero = refl
-framing-kind (suc zero) = refl
-framing-kind (suc (suc zero)) = refl
-framing-kind (suc (suc (suc zero))) = refl
-framing-kind (suc (suc (suc (suc zero)))) = refl
-framing-kind (suc (suc (suc (suc (suc zero))))) = refl
-framing-kind (suc (suc (suc (suc (suc (suc zero)))))) = refl
-framing-kind (suc (suc (suc (suc (suc (suc (suc w))))))) = above (suc (suc (suc (suc (suc (suc (suc w))))))) (omega arith)
+framing-kind = by-word (λ w. framing w ≡ framing (kind w)) refl refl refl refl refl refl refl others
   where
-    above : (w : ℕ) → 7 ≤ w → framing w ≡ framing (kind w)
-    above w low = no-frame w low ∙ from-seven (λ k. false ≡ framing k) w low refl refl
+    others : (w : ℕ) → 7 ≤ w → framing w ≡ framing (kind w)
+    others w low = no-frame w low ∙ from-seven (λ m. false ≡ framing (index m)) w low refl refl

@@ -3,7 +3,7 @@
 -- not fit, neither do both.
 use Prim.Native.Nat.{ℕ, _+_, _≤_, _<_}
 use mathlib.Core.List.{List, _++_}
-use mathlib.Core.Path.{_≡_, refl, sym, ap, ap₂, _∙_}
+use mathlib.Core.Path.{_≡_, refl, sym, ap, _∙_}
 use native.Mathlib.Nat.{le-refl}
 use native.Mathlib.Omega.{arith}
 use lib.ListN.{length, take, length-append}
@@ -12,7 +12,7 @@ use Rattle.reduction.specs.declared.copying.Room.{Room}
 use Rattle.reduction.specs.declared.copying.Room.the-variants as room
 use Rattle.reduction.specs.declared.rewriting.Progress.{Progress}
 use Rattle.reduction.specs.declared.rewriting.Progress.the-variants as progress
-use Rattle.reduction.specs.Writing.{Writes, Rewrites}
+use Rattle.reduction.specs.Writing.{Written, Writes, Rewrites}
 use Rattle.reduction.proofs.Stores.{sets-append, take-sets}
 
 pub record Wrote (e out : List ℕ) (at next : ℕ) (after : List ℕ) : Type 0 where
@@ -24,43 +24,41 @@ pub record Lacked (e out : List ℕ) (at : ℕ) (after : List ℕ) : Type 0 wher
   pub short : length out < at + length e
   pub kept : take at after ≡ take at out
 
--- An answer is `to` where `a ≤ b` and otherwise `full`: either tells which of the two holds.
-module _ {a b : ℕ} {P Q R : Type 0} {to full r : R} (fits : a ≤ b → (r ≡ to) × P) (short : b < a → (r ≡ full) × Q) where
-  fitted : (r ≡ full → ⊥) → (a ≤ b) × (r ≡ to) × P
+-- Either answer tells which of the two the call did.
+module _ {R : Type 0} {to : ℕ → R} {none : R} {e out : List ℕ} {at : ℕ} {r : R} {after : List ℕ}
+    (w : Written to none e out at r after) where
+  fitted : (r ≡ none → ⊥) → Wrote e out at (at + length e) after × (r ≡ to (at + length e))
   fitted differs =
-      let never : b < a → ⊥ = λ s. differs (short s .0) in
-      let h : a ≤ b = omega arith in
-      (h, fits h .0, fits h .1)
+      let never : length out < at + length e → ⊥ = λ s. differs (w .full s .0) in
+      let h : at + length e ≤ length out = omega arith in
+      (record { room = h; place = refl; stored = w .fits h .1 }, w .fits h .0)
 
-  missed : (r ≡ to → ⊥) → (b < a) × Q
+  missed : ((n : ℕ) → r ≡ to n → ⊥) → Lacked e out at after
   missed differs =
-      let never : a ≤ b → ⊥ = λ s. differs (fits s .0) in
-      let h : b < a = omega arith in
-      (h, short h .1)
+      let never : at + length e ≤ length out → ⊥ = λ s. differs (at + length e) (w .fits s .0) in
+      let h : length out < at + length e = omega arith in
+      record { short = h; kept = w .full h .1 }
 
 module _ {e out : List ℕ} {at : ℕ} {r : Room} {after : List ℕ} (w : Writes e out at r after) where
   pub wrote-of : {next : ℕ} → r ≡ room.To next → Wrote e out at next after
-  wrote-of to =
-      let g = fitted (w .fits) (w .full) (λ n. let z : _≡_ {A = ℕ} 0 1 = cc in omega arith) in
-      let t = g .1 in
-      record { room = g .0; place = cc; stored = g .2 }
+  wrote-of {next} to =
+      let (wrote, said) = fitted w (λ n. let z : _≡_ {A = ℕ} 0 1 = cc in omega arith) in
+      let same : next ≡ at + length e = cc in
+      rw same wrote
 
   pub lacked-of : r ≡ room.Full → Lacked e out at after
-  lacked-of n =
-      let m = missed (w .fits) (w .full) (λ to. let z : _≡_ {A = ℕ} 0 1 = cc in omega arith) in
-      record { short = m .0; kept = m .1 }
+  lacked-of n = missed w (λ m to. let z : _≡_ {A = ℕ} 0 1 = cc in omega arith)
 
-module _ {e : List ℕ} {read : ℕ} {out : List ℕ} {at : ℕ} {r : Progress} {after : List ℕ} (w : Rewrites e read out at r after) where
+module _ {e : List ℕ} {read : ℕ} {out : List ℕ} {at : ℕ} {r : Progress} {after : List ℕ}
+    (w : Rewrites e read out at r after) where
   pub rewrote-of : {more next : ℕ} → r ≡ progress.To more next → (more ≡ read) × Wrote e out at next after
-  rewrote-of to =
-      let g = fitted (w .fits) (w .full) (λ n. let z : _≡_ {A = ℕ} 0 1 = cc in omega arith) in
-      let t = g .1 in
-      (cc, record { room = g .0; place = cc; stored = g .2 })
+  rewrote-of {more} {next} to =
+      let (wrote, said) = fitted w (λ n. let z : _≡_ {A = ℕ} 0 1 = cc in omega arith) in
+      let same : next ≡ at + length e = cc in
+      (cc, rw same wrote)
 
   pub relacked-of : r ≡ progress.Full → Lacked e out at after
-  relacked-of n =
-      let m = missed (w .fits) (w .full) (λ to. let z : _≡_ {A = ℕ} 0 1 = cc in omega arith) in
-      record { short = m .0; kept = m .1 }
+  relacked-of n = missed w (λ m to. let z : _≡_ {A = ℕ} 0 1 = cc in omega arith)
 
 module _ {e out : List ℕ} {at next : ℕ} {mid : List ℕ} (w : Wrote e out at next mid) where
   pub length-wrote : length mid ≡ length out
@@ -87,15 +85,17 @@ module _ {e out : List ℕ} {at next : ℕ} {mid : List ℕ} (w : Wrote e out at
             ∙ take-sets at out at e (le-refl at);
       }
 
-  pub writes-then : {e₂ : List ℕ} {r : Room} {after : List ℕ} → Writes e₂ mid next r after → Writes (e ++ e₂) out at r after
-  writes-then {e₂} {r} {after} v =
+  pub written-then : {R : Type 0} {to : ℕ → R} {none : R} {e₂ : List ℕ} {r : R} {after : List ℕ}
+      → Written to none e₂ mid next r after
+      → Written to none (e ++ e₂) out at r after
+  written-then {to = to} {e₂ = e₂} v =
       let sum = length-append e e₂ in
       let same = length-wrote in
       record {
         fits = λ h.
             let left : next + length e₂ ≤ length mid = omega arith in
             let end : next + length e₂ ≡ at + length (e ++ e₂) = omega arith in
-            (v .fits left .0 ∙ ap room.To end, wrote-both (record { room = left; place = refl; stored = v .fits left .1 }) .stored);
+            (v .fits left .0 ∙ ap to end, wrote-both (record { room = left; place = refl; stored = v .fits left .1 }) .stored);
         full = λ h.
             let short : length mid < next + length e₂ = omega arith in
             (v .full short .0, wrote-lacked {e₂ = e₂} (record { short = short; kept = v .full short .1 }) .kept);
@@ -104,20 +104,15 @@ module _ {e out : List ℕ} {at next : ℕ} {mid : List ℕ} (w : Wrote e out at
 pub lacked-more : {e out : List ℕ} {at : ℕ} {after : List ℕ} (e₂ : List ℕ) → Lacked e out at after → Lacked (e ++ e₂) out at after
 lacked-more {e} e₂ l = record { short = omega (arith, length-append e e₂); kept = l .kept }
 
-pub writes-all : {e out : List ℕ} {at next : ℕ} {after : List ℕ} → Wrote e out at next after → Writes e out at (room.To next) after
-writes-all w = record { fits = λ h. (ap room.To (w .place), w .stored); full = λ h. absurd (omega arith) }
+module _ {R : Type 0} {to : ℕ → R} {none : R} {e out : List ℕ} {at : ℕ} {after : List ℕ} where
+  pub written-all : {next : ℕ} → Wrote e out at next after → Written to none e out at (to next) after
+  written-all w = record { fits = λ h. (ap to (w .place), w .stored); full = λ h. absurd (omega arith) }
 
-pub writes-short : {e out : List ℕ} {at : ℕ} {after : List ℕ} → Lacked e out at after → Writes e out at room.Full after
-writes-short l = record { fits = λ h. absurd (omega arith); full = λ h. (refl, l .kept) }
+  pub written-short : Lacked e out at after → Written to none e out at none after
+  written-short l = record { fits = λ h. absurd (omega arith); full = λ h. (refl, l .kept) }
 
 pub rewrites-all : {e : List ℕ} {read : ℕ} {out : List ℕ} {at more next : ℕ} {after : List ℕ}
     → more ≡ read
     → Wrote e out at next after
     → Rewrites e read out at (progress.To more next) after
-rewrites-all end w =
-    record { fits = λ h. (ap₂ progress.To end (w .place), w .stored); full = λ h. absurd (omega arith) }
-
-pub rewrites-short : {e : List ℕ} {read : ℕ} {out : List ℕ} {at : ℕ} {after : List ℕ}
-    → Lacked e out at after
-    → Rewrites e read out at progress.Full after
-rewrites-short l = record { fits = λ h. absurd (omega arith); full = λ h. (refl, l .kept) }
+rewrites-all end w = rw end (written-all w)

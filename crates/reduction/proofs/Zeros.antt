@@ -64,12 +64,15 @@ pub cleared-more : (n e : ℕ) (ws : List ℕ) {before after : List ℕ}
 cleared-more n e ws {before} {after} l u h a =
     a
     ∙ ap₂ (λ x y. x ++ (replicate (length (midOf n (e - n) before)) 0 ++ y)) front rest
-    ∙ ap (λ k. zeros ++ (replicate k 0 ++ drop e ws)) (mid-len n e before (omega (arith, ap length h, cleared-length n ws (omega arith))))
+    ∙ ap (λ k. zeros ++ (replicate k 0 ++ drop e ws)) (mid-len n e before inside)
     ∙ sym (append-assoc zeros (replicate (e - n) 0) (drop e ws))
     ∙ ap (λ x. x ++ drop e ws) (replicate-append-replicate n (e - n) 0)
     ∙ ap (λ k. replicate k 0 ++ drop e ws) sum
     ∙ sym (cleared-is e ws)
   where
+    inside : e ≤ length before
+    inside = omega (arith, ap length h, cleared-length n ws (omega arith))
+
     sum : n + (e - n) ≡ e
     sum = omega arith
 
@@ -83,8 +86,13 @@ cleared-more n e ws {before} {after} l u h a =
     front = ap (take n) now ∙ take-at zeros (drop n ws) n (length-replicate n 0)
 
     rest : postOf n (e - n) before ≡ drop e ws
-    rest = ap (λ b. drop (e - n) (drop n b)) now ∙ ap (drop (e - n)) (drop-at zeros (drop n ws) n (length-replicate n 0)) ∙ post-is n e ws l
+    rest =
+        ap (λ b. drop (e - n) (drop n b)) now
+        ∙ ap (drop (e - n)) (drop-at zeros (drop n ws) n (length-replicate n 0))
+        ∙ post-is n e ws l
 
 -- A part that is 0 already is as if it were made so.
-pub part-clear : (n k : ℕ) (ws : List ℕ) → midOf n k ws ≡ replicate (length (midOf n k ws)) 0 → ws ≡ putMid n k ws (replicate (length (midOf n k ws)) 0)
+pub part-clear : (n k : ℕ) (ws : List ℕ)
+    → midOf n k ws ≡ replicate (length (midOf n k ws)) 0
+    → ws ≡ putMid n k ws (replicate (length (midOf n k ws)) 0)
 part-clear n k ws h = sym (put-same n k ws) ∙ ap (putMid n k ws) h

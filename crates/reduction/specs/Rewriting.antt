@@ -1,6 +1,6 @@
 -- Raising and substitution on words: what is written for each word of a subterm under so many binders.
 use Prim.Native.Nat.{ℕ, _+_, _-_, _≤_, _<_}
-use mathlib.Core.Bool.{Bool, true, cond}
+use mathlib.Core.Bool.{true, cond}
 use mathlib.Core.List.{List, [], _∷_, _++_, map}
 use mathlib.Core.Path.{_≡_}
 use lib.Dec.{ltb, eqb}
@@ -36,15 +36,13 @@ unfoldable pub changed-word : Change → List ℕ → ℕ → ℕ → List ℕ
 changed-word (change.Raise n) u = raised-word n
 changed-word (change.Put c) u = put-word u
 
--- Every word is below 2,048.
-unfoldable pub Plain : List ℕ → Type 0
-Plain [] = Unit
-Plain (w ∷ ws) = (w < 2048) × Plain ws
+-- Every word is below `n`. Below 16 none is a variable.
+unfoldable pub Below : ℕ → List ℕ → Type 0
+Below n [] = Unit
+Below n (w ∷ ws) = (w < n) × Below n ws
 
--- Every word is below 16: none is a variable.
-unfoldable pub Closing : List ℕ → Type 0
-Closing [] = Unit
-Closing (w ∷ ws) = (w < 16) × Closing ws
+abbrev pub Plain : List ℕ → Type 0
+Plain ws = Below 2048 ws
 
 -- What a change asks of its numbers: no sum leaves 16 bits, and an argument that is put in as it stands is the same raised.
 unfoldable pub Bounded : Change → List ℕ → Type 0

@@ -1,5 +1,5 @@
 -- Where a term steps, and what a step answers and writes.
-use Prim.Native.Nat.{ℕ, suc, _+_, _≤_, _<_}
+use Prim.Native.Nat.{ℕ, suc, _≤_, _<_}
 use mathlib.Core.Bool.{Bool, true, cond, _&&_}
 use mathlib.Core.List.{List, [], _∷_}
 use mathlib.Core.Path.{_≡_}
@@ -9,6 +9,7 @@ use lib.Seq.{sets}
 use Rattle.calculus.specs.Term.{Term, var, star, app, lam, pi, castup, castdown, mu, size}
 use Rattle.calculus.specs.Words.{words, Scoped, longest, deepest}
 use Rattle.calculus.specs.Step as calculus
+use Rattle.reduction.specs.Writing.{Written}
 use Rattle.reduction.specs.declared.stepping.Redex.{Redex}
 use Rattle.reduction.specs.declared.stepping.Redex.the-variants as redex
 use Rattle.reduction.specs.declared.stepping.Stepped.{Stepped}
@@ -80,9 +81,8 @@ pub record Arrives (e out : List ℕ) (r : Stepped) (after : List ℕ) : Type 0 
   pub full : length out < length e → r ≡ stepped.Full
 
 -- The same from `at` on, where all before it is written.
-pub record Finishes (e out : List ℕ) (at : ℕ) (r : Stepped) (after : List ℕ) : Type 0 where
-  pub fits : at + length e ≤ length out → (r ≡ stepped.To (at + length e)) × (after ≡ sets out at e)
-  pub full : length out < at + length e → r ≡ stepped.Full
+abbrev pub Finishes : List ℕ → List ℕ → ℕ → Stepped → List ℕ → Type 0
+Finishes e out at r after = Written stepped.To stepped.Full e out at r after
 
 -- What a step answers and writes, by what the calculus says.
 unfoldable pub Steps : calculus.Next → List ℕ → Stepped → List ℕ → Type 0

@@ -5,10 +5,10 @@ use crate::copying::put;
 use term::word::Meaning;
 use term::word::classify;
 ghost use mathlib.Core.Path.{_≡_};
-ghost use Prim.Native.Nat.{ℕ, _≤_, _+_, _<_};
+ghost use Prim.Native.Nat.{_≤_, _+_, _<_};
 ghost use mathlib.Core.List.{[], _∷_};
-ghost use lib.ListN.{length, take, drop};
-ghost use Rattle.reduction.specs.Rewriting.{Bounded, Closing, Plain, changed-word, instantiated, raised, rewritten, shape-of};
+ghost use lib.ListN.{length, drop};
+ghost use Rattle.reduction.specs.Rewriting.{Below, Bounded, Plain, changed-word, instantiated, raised, rewritten, shape-of};
 ghost use Rattle.reduction.specs.Writing.{Rewrites, Writes};
 ghost use Rattle.term.specs.Walk.{span};
 
@@ -33,6 +33,7 @@ enum Shape {
     Two(u16),
 }
 
+// A word that means nothing stands in no term; it is passed over as a leaf.
 fn shape_of(word: u16) -> Shape
     requires { ⌜ word < 2048 ⌝ }
     ensures { λ r. ⌜ shape-of r word ⌝ }
@@ -131,7 +132,7 @@ fn rewrite(
 
 // How many words stand up to the last variable of `source`, with it.
 fn last_variable(source: &[u16]) -> usize
-    ensures { λ r. ⌜ (r ≤ length (now (source .entry))) × Closing (drop r (now (source .entry))) ⌝ }
+    ensures { λ r. ⌜ (r ≤ length (now (source .entry))) × Below 16 (drop r (now (source .entry))) ⌝ }
 {
     let mut count = source.len();
     while 0 < count {

@@ -1,5 +1,6 @@
--- Where the parts of a term stand in its words. Behind a node's own word stand the words of its parts, one after another, as many as the
--- word says, so that the walk over the first finds the second. That the words found there are the part's is `part-words` of the calculus.
+-- Where the parts of a term stand in its words. Behind a node's own word stand the words of its parts, one after another, as many
+-- as the word says, so that the walk over the first finds the second. That the words found there are the part's is `part-words`
+-- of the calculus.
 use Prim.Native.Nat.{ℕ, zero, suc, _+_, _-_, _≤_, _<_}
 use mathlib.Core.List.{List, [], _∷_}
 use mathlib.Core.Path.{_≡_, refl, sym, _∙_}
@@ -17,11 +18,13 @@ use Rattle.calculus.proofs.ReadBack.{read-sound}
 use Rattle.term.specs.Word.{arity}
 use Rattle.term.specs.Walk.{span}
 use Rattle.term.specs.Subterms.{outcome}
-use Rattle.term.proofs.Walking.{span-emit}
+use Rattle.term.proofs.Walking.{span-emit, read-term}
 use Rattle.term.proofs.Words.{no-parts}
 
 -- The first of some terms in their words, the second, and a number for which there is none.
-nth-first : (es : List Term) (place : ℕ) → 1 ≤ length es → nth-part es 1 place ≡ record { start = place; extent = span (emits es) 1 }
+nth-first : (es : List Term) (place : ℕ)
+    → 1 ≤ length es
+    → nth-part es 1 place ≡ record { start = place; extent = span (emits es) 1 }
 unfolding nth-part emits
 nth-first [] place h = absurd (omega arith)
 nth-first (e ∷ es) place h = rw (span-emit e (emits es)) refl
@@ -64,22 +67,21 @@ node (castup a e) = (_, refl, refl)
 node (castdown e) = (_, refl, refl)
 node (mu a e) = (_, refl, refl)
 
-accepted : (ws : List ℕ) → ok tt ≡ outcome (read ws) → Node ws
+read-node : (ws : List ℕ) (t : Term) → read ws ≡ ok t → Node ws
 unfolding found found-in
-accepted ws = on (read ws) refl
-  where
-    on : (x : Answer Term) → read ws ≡ x → ok tt ≡ outcome x → Node ws
-    on (ok t) e h =
-        let (w, begins, many) = node t in
-        let same : ws ≡ w ∷ emits (parts t) = read-sound ws t e .0 ∙ begins in
-        record {
-          below = parts t;
-          some = rw same (omega arith);
-          many = rw same many;
-          behind = rw same refl;
-          placed = λ k. rw e refl;
-        }
-    on (refused r p) e h = let z : _≡_ {A = ℕ} 0 1 = cc in absurd (omega arith)
+read-node ws t e =
+    let (w, begins, many) = node t in
+    let same : ws ≡ w ∷ emits (parts t) = read-sound ws t e .0 ∙ begins in
+    record {
+      below = parts t;
+      some = rw same (omega arith);
+      many = rw same many;
+      behind = rw same refl;
+      placed = λ k. rw e refl;
+    }
+
+accepted : (ws : List ℕ) → ok tt ≡ outcome (read ws) → Node ws
+accepted ws h = let (t, e) = read-term ws (sym h) in read-node ws t e
 
 pub found-refused : {s : Reason} {q : ℕ} (ws : List ℕ) (k : ℕ) → refused s q ≡ outcome (read ws) → absent ≡ found ws k
 unfolding found found-in

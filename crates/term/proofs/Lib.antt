@@ -7,4 +7,3 @@ pub mod Stacked
 pub mod Turns
 pub mod Whole
 pub mod Finding
-pub mod Reasons

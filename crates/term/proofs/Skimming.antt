@@ -1,4 +1,5 @@
--- Skimming goes as the code reads: one word at a time, from one place to the next.
+-- Skimming goes as the code reads, one word at a time from one place to the next: the list from a place on is the word there and
+-- the list from the next place on.
 use Prim.Native.Nat.{ℕ, suc, _+_, _≤_, _<_}
 use mathlib.Core.List.{List, [], _∷_, _++_, map}
 use mathlib.Core.Path.{_≡_, refl, ap, _∙_}

@@ -1,4 +1,5 @@
--- The pending subterms as two arrays hold them, a room and a scope each. Stores and reads at the end of what is held go as on a list.
+-- The pending subterms as two arrays hold them, a room and a scope each. A store behind the entries changes none of them, so it
+-- puts one subterm more in front of the list, and to read the last entry is to take the first of the list.
 use Prim.Native.Nat.{ℕ, zero, suc, _+_, _-_, _≤_, _<_}
 use mathlib.Core.List.{List, [], _∷_}
 use mathlib.Core.Path.{_≡_, refl, ap}
@@ -13,6 +14,11 @@ use Rattle.term.specs.Subterms.{pending}
 unfoldable pub stacked : List ℕ → List ℕ → ℕ → List Pending
 stacked rooms scopes zero = []
 stacked rooms scopes (suc n) = pending (getD rooms n 0) (getD scopes n 0) ∷ stacked rooms scopes n
+
+pub stacked-length : (rooms scopes : List ℕ) (n : ℕ) → length (stacked rooms scopes n) ≡ n
+unfolding stacked
+stacked-length rooms scopes zero = refl
+stacked-length rooms scopes (suc n) = ap suc (stacked-length rooms scopes n)
 
 -- What is stored behind the entries changes none of them.
 kept : (rooms scopes : List ℕ) (m x y n : ℕ) → n ≤ m → stacked (set rooms m x) (set scopes m y) n ≡ stacked rooms scopes n

@@ -1,31 +1,27 @@
--- The tests of one word, in the order 5, 8, 9, by what the word means. The code knows the meaning as a variant, most often only by
--- the number of the variant, its tag: the tests and the parts of every variant but the variable go by the tag alone.
+-- The tests of one word, in the order 5, 8, 9, by what the word means: the first that fails answers, and where all pass the parts
+-- do. The code knows the meaning as a variant, most often only by the number of the variant, its tag. Only a variable needs more
+-- than that: the tests and the parts of every other variant go by the tag alone.
 use Prim.Native.Nat.{ℕ, _≤_, _<_}
-use mathlib.Core.Bool.{Bool, true, false}
+use mathlib.Core.Bool.{Bool, true, false, not}
 use mathlib.Core.List.{List, [], _∷_}
 use mathlib.Core.Logic.{inl, inr}
 use mathlib.Core.Path.{_≡_, refl, sym, ap, subst}
 use native.Mathlib.Omega.{arith}
 use borrow.Author.Tests.{lt-ltb, le-ltb}
-use lib.Dec.{T, ltb, ltb→lt, lit≤}
+use lib.Dec.{T, ltb, eqb, ltb→lt}
 use lib.ListN.{getD}
 use types.Run.{OneOf}
 use denote.Enum.Declared.{tagOf}
 use Rattle.calculus.specs.Answer.{ok, refused, _>>=_, _>>_, require, no-meaning, level-65, unbound}
 use Rattle.calculus.specs.Reading as calculus
-use Rattle.calculus.specs.Reading.{a-star, a-castdown, an-app, a-castup, a-lam, a-pi, a-mu, a-variable, nothing, meaning, means, bound, binds, test, Pending}
+use Rattle.calculus.specs.Reading.{a-variable, nothing, meaning, means, bound, binds, test, Pending}
 use Rattle.calculus.proofs.Comparisons.{passed}
 use Rattle.term.specs.declared.word.Meaning.{Meaning}
 use Rattle.term.specs.declared.word.Meaning.the-variants.{Star, CastDown, Application, CastUp, Abstraction, Product, Recursion, Variable, Nothing}
 use Rattle.term.specs.Word.{meaning-of}
 use Rattle.term.specs.Subterms.{pending, visited}
+use Rattle.term.proofs.Words.{few-binds}
 use Rattle.term.proofs.word.Meaning.{the-type}
-
--- A word that means `m` passes its tests below `b` binders, where there is a level for it; `ks` are its parts.
-pub record Passes (m : calculus.Meaning) (b : ℕ) (ks : List ℕ) : Type 0 where
-  pub meant : T (means m)
-  pub inside : T (bound m b)
-  pub parts : binds m ≡ ks
 
 module _ {m : calculus.Meaning} (w room b p : ℕ) (e : meaning w ≡ m) where
   pub meaningless : m ≡ nothing → refused no-meaning p ≡ visited w (pending room b) p
@@ -40,10 +36,10 @@ module _ {m : calculus.Meaning} (w room b p : ℕ) (e : meaning w ≡ m) where
   unfolding visited test means bound require _>>=_ _>>_
   outside h deep free = rw (e, h, lt-ltb 0 room deep, le-ltb _ b free) refl
 
-  pub passes : {ks : List ℕ} → Passes m b ks → 0 < room → ok ks ≡ visited w (pending room b) p
+  pub passes : {ks : List ℕ} → T (means m) → 0 < room → T (bound m b) → binds m ≡ ks → ok ks ≡ visited w (pending room b) p
   unfolding visited test require _>>=_ _>>_
-  passes h deep =
-      rw (e, passed (means m) (h .meant), lt-ltb 0 room deep, passed (bound m b) (h .inside)) (ap ok (sym (h .parts)))
+  passes meant deep inside parts =
+      rw (e, passed (means m) meant, lt-ltb 0 room deep, passed (bound m b) inside) (ap ok (sym parts))
 
 -- The other way: a word that passes has a level, and binds at most one variable in a second part.
 tested : {ks js : List ℕ} (p : ℕ) (a b c : Bool)
@@ -55,18 +51,6 @@ tested p true true false e = let z : _≡_ {A = ℕ} 0 1 = cc in absurd (omega a
 tested p true false c e = let z : _≡_ {A = ℕ} 0 1 = cc in absurd (omega arith)
 tested p false b c e = let z : _≡_ {A = ℕ} 0 1 = cc in absurd (omega arith)
 
-binds-second : (m : calculus.Meaning) → getD (binds m) 1 0 ≤ 1
-unfolding binds
-binds-second a-star = lit≤ tt
-binds-second a-castdown = lit≤ tt
-binds-second an-app = lit≤ tt
-binds-second a-castup = lit≤ tt
-binds-second a-lam = lit≤ tt
-binds-second a-pi = lit≤ tt
-binds-second a-mu = lit≤ tt
-binds-second (a-variable i) = lit≤ tt
-binds-second nothing = lit≤ tt
-
 module _ {ks : List ℕ} (w : ℕ) (s : Pending) (p : ℕ) (e : ok ks ≡ visited w s p) where
   answers : T (ltb 0 (s .room)) × (ks ≡ binds (meaning w))
   unfolding visited test
@@ -76,7 +60,7 @@ module _ {ks : List ℕ} (w : ℕ) (s : Pending) (p : ℕ) (e : ok ks ≡ visite
   has-level = ltb→lt 0 (s .room) (answers .0)
 
   pub binds-one : getD ks 1 0 ≤ 1
-  binds-one = rw (answers .1) (binds-second (meaning w))
+  binds-one = rw (answers .1) (few-binds (meaning w) .1)
 
 -- The place of a variant in its enum.
 abbrev pub tag : Meaning → ℕ
@@ -93,7 +77,7 @@ at-one P (k ∷ []) h x e = subst P (sym e) (h .0)
 at-one P (k ∷ k′ ∷ ks) h x (inl e) = subst P (sym e) (h .0)
 at-one P (k ∷ k′ ∷ ks) h x (inr r) = at-one P (k′ ∷ ks) (h .1) x r
 
-pub meant : (m : Meaning) → tag m < 8 → T (means (meaning-of m))
+pub meant : (m : Meaning) → T (not (eqb (tag m) 8)) → T (means (meaning-of m))
 unfolding means
 meant Star h = tt
 meant CastDown h = tt
@@ -103,20 +87,35 @@ meant Abstraction h = tt
 meant Product h = tt
 meant Recursion h = tt
 meant (Variable i) h = tt
-meant Nothing h = absurd (omega arith)
+meant Nothing h = elim h [ ]
 
--- The parts of the variants before the variable.
+-- A meaning that is no variable: such a word is inside its binders under any number of them, and `ks` are its parts.
+pub record No-variable (m : calculus.Meaning) (ks : List ℕ) : Type 0 where
+  pub inside : (b : ℕ) → T (bound m b)
+  pub parts : binds m ≡ ks
+
+-- The parts of each variant, in the order of the enum.
 abbrev pub rows : List (List ℕ)
-rows = [] ∷ (0 ∷ []) ∷ (0 ∷ 0 ∷ []) ∷ (0 ∷ 0 ∷ []) ∷ (0 ∷ 1 ∷ []) ∷ (0 ∷ 1 ∷ []) ∷ (0 ∷ 1 ∷ []) ∷ []
+rows = [] ∷ (0 ∷ []) ∷ (0 ∷ 0 ∷ []) ∷ (0 ∷ 0 ∷ []) ∷ (0 ∷ 1 ∷ []) ∷ (0 ∷ 1 ∷ []) ∷ (0 ∷ 1 ∷ []) ∷ [] ∷ [] ∷ []
 
-pub by-tag : (m : Meaning) (b : ℕ) → tag m < 7 → Passes (meaning-of m) b (getD rows (tag m) [])
-unfolding means bound binds
-by-tag Star b h = record { meant = tt; inside = tt; parts = refl }
-by-tag CastDown b h = record { meant = tt; inside = tt; parts = refl }
-by-tag Application b h = record { meant = tt; inside = tt; parts = refl }
-by-tag CastUp b h = record { meant = tt; inside = tt; parts = refl }
-by-tag Abstraction b h = record { meant = tt; inside = tt; parts = refl }
-by-tag Product b h = record { meant = tt; inside = tt; parts = refl }
-by-tag Recursion b h = record { meant = tt; inside = tt; parts = refl }
-by-tag (Variable i) b h = absurd (omega arith)
-by-tag Nothing b h = absurd (omega arith)
+by-tag : (m : Meaning) → T (not (eqb (tag m) 7)) → No-variable (meaning-of m) (getD rows (tag m) [])
+unfolding bound binds
+by-tag Star h = record { inside = λ b. tt; parts = refl }
+by-tag CastDown h = record { inside = λ b. tt; parts = refl }
+by-tag Application h = record { inside = λ b. tt; parts = refl }
+by-tag CastUp h = record { inside = λ b. tt; parts = refl }
+by-tag Abstraction h = record { inside = λ b. tt; parts = refl }
+by-tag Product h = record { inside = λ b. tt; parts = refl }
+by-tag Recursion h = record { inside = λ b. tt; parts = refl }
+by-tag (Variable i) h = elim h [ ]
+by-tag Nothing h = record { inside = λ b. tt; parts = refl }
+
+-- The variant with the tag `t` is another than the variable, and `ks` are its parts.
+abbrev pub Row : List ℕ → ℕ → Type 0
+Row ks t = T (not (eqb t 7)) × (getD rows t [] ≡ ks)
+
+-- An arm for several such variants.
+pub arm : (m : Meaning) (ks tags : List ℕ) → Each (Row ks) tags → OneOf tags (tag m) → No-variable (meaning-of m) ks
+arm m ks tags each one =
+    let (other, same) = at-one (Row ks) tags each (tag m) one in
+    rw same at (by-tag m other)

@@ -1,6 +1,6 @@
--- The walk over subterms. Over the words of a term it goes as far as the term is long, whatever follows: each word asks for just the
--- parts that stand behind it. The words of j + k subterms are those of j, and behind them those of k. What reading accepts is such
--- words, so the walk finds its way in every accepted list.
+-- The walk over subterms. Over the words of a term it goes as far as the term is long, whatever follows: each word asks for just
+-- the parts that stand behind it. The words of j + k subterms are those of j, and behind them those of k. What reading accepts is
+-- such words, so the walk finds its way in every accepted list.
 use Prim.Native.Nat.{ℕ, zero, suc, _+_, _-_, _≤_, _<_}
 use mathlib.Core.List.{List, [], _∷_}
 use mathlib.Core.Path.{_≡_, refl, ap, _∙_}
@@ -59,7 +59,11 @@ no-part : (w : ℕ) → arity w ≡ 0 → (k : List ℕ) (n : ℕ) → span (w �
 unfolding span
 no-part w none k n = rw (none, zero-add n) (omega arith)
 
-one-part : (w : ℕ) (e : Term) → arity w ≡ 1 → Passed e → (k : List ℕ) (n : ℕ) → span (w ∷ emit e k) (suc n) ≡ suc (size e) + span k n
+one-part : (w : ℕ) (e : Term)
+    → arity w ≡ 1
+    → Passed e
+    → (k : List ℕ) (n : ℕ)
+    → span (w ∷ emit e k) (suc n) ≡ suc (size e) + span k n
 unfolding span
 one-part w e one he k n = rw (one, one-add n) (omega (arith, he k n))
 
@@ -92,15 +96,21 @@ pub span-words : (t : Term) → span (words t) 1 ≡ size t
 unfolding words
 span-words t = span-emit t []
 
--- What reading accepts is a readable term's words.
-pub reads-term : (ws : List ℕ) → outcome (read ws) ≡ ok tt → (t : Term) × (ws ≡ words t) × Readable t
-reads-term ws h = on (read ws) refl h
+-- A list that is not refused is read as a term, and is the words of that term.
+pub read-term : (ws : List ℕ) → outcome (read ws) ≡ ok tt → (t : Term) × (read ws ≡ ok t)
+read-term ws = on (read ws)
   where
-    on : (x : Answer Term) → read ws ≡ x → outcome x ≡ ok tt → (t : Term) × (ws ≡ words t) × Readable t
-    on (ok t) e h = let s = read-sound ws t e in (t, s .0, s .1)
-    on (refused r p) e h = let z : _≡_ {A = ℕ} 0 1 = cc in absurd (omega arith)
+    on : (x : Answer Term) → outcome x ≡ ok tt → (t : Term) × (x ≡ ok t)
+    on (ok t) h = (t, refl)
+    on (refused r p) h = let z : _≡_ {A = ℕ} 0 1 = cc in absurd (omega arith)
 
--- What it refuses is refused as the calculus reads it.
+pub reads-term : (ws : List ℕ) → outcome (read ws) ≡ ok tt → (t : Term) × (ws ≡ words t) × Readable t
+reads-term ws h =
+    let (t, e) = read-term ws h in
+    let (coded, readable) = read-sound ws t e in
+    (t, coded, readable)
+
+-- One that is refused is refused as the calculus reads it.
 pub reads-refusal : (ws : List ℕ) {r : Reason} {p : ℕ} → outcome (read ws) ≡ refused r p → read ws ≡ refused r p
 reads-refusal ws {r} {p} h = on (read ws) h
   where

@@ -1,5 +1,5 @@
--- Reading a whole list answers what skimming it for one subterm answers, but that words left over are refused: scanning passes the same
--- words by the same tests, and makes terms besides.
+-- Reading a whole list answers what skimming it for one subterm answers, but that words left over are refused: scanning passes
+-- the same words by the same tests, and makes terms besides.
 use Prim.Native.Nat.{ℕ, suc, _≤_, _<_}
 use mathlib.Core.Bool.{cond}
 use mathlib.Core.List.{List, [], _∷_, _++_, map}
@@ -33,7 +33,8 @@ outcome-map (ok a) f = refl
 outcome-map (refused r p) f = refl
 
 -- A word's test before the rest of a scan and of a skim.
-after-test : (x : Answer (Unit {0})) (y : Answer (List Term)) (f : List Term → List Term) (ks : List ℕ) (g : List ℕ → Answer ℕ) (h : ℕ → Answer (Unit {0}))
+after-test : (x : Answer (Unit {0})) (y : Answer (List Term)) (f : List Term → List Term)
+    (ks : List ℕ) (g : List ℕ → Answer ℕ) (h : ℕ → Answer (Unit {0}))
     → outcome y ≡ (g ks >>= h)
     → outcome (x >> (y >>= λ ts. ok (f ts))) ≡ (x >> ok ks >>= g >>= h)
 unfolding _>>=_ _>>_

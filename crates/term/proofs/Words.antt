@@ -1,5 +1,5 @@
--- What the words of each range mean, and how many parts follow them: the table of the calculus has a row for each word below 7, the
--- words from 16 to 2,047 are variables, and every other word means nothing. A word from 7 on has no parts, whatever it means.
+-- What the words of each range mean, and how many parts follow them: the table of the calculus has a row for each word below 7,
+-- the words from 16 to 2,047 are variables, and every other word means nothing. A word from 7 on has no parts, whatever it means.
 use Prim.Native.Nat.{ℕ, zero, suc, _-_, _≤_, _<_}
 use mathlib.Core.Bool.{Bool, true, false, cond}
 use mathlib.Core.List.{List, [], _∷_}
@@ -27,37 +27,57 @@ pub beyond : (w : ℕ) → 2048 ≤ w → meaning w ≡ nothing
 unfolding meaning
 beyond w low = rw (le-ltb w 16 (omega arith), le-ltb w 2048 low)
 
+-- What holds of each word below 7, and of the words from 7 on, holds of every word.
+pub by-word : (P : ℕ → Type 0) → P 0 → P 1 → P 2 → P 3 → P 4 → P 5 → P 6 → ((w : ℕ) → 7 ≤ w → P w) → (w : ℕ) → P w
+by-word P p₀ p₁ p₂ p₃ p₄ p₅ p₆ others zero = p₀
+by-word P p₀ p₁ p₂ p₃ p₄ p₅ p₆ others (suc zero) = p₁
+by-word P p₀ p₁ p₂ p₃ p₄ p₅ p₆ others (suc (suc zero)) = p₂
+by-word P p₀ p₁ p₂ p₃ p₄ p₅ p₆ others (suc (suc (suc zero))) = p₃
+by-word P p₀ p₁ p₂ p₃ p₄ p₅ p₆ others (suc (suc (suc (suc zero)))) = p₄
+by-word P p₀ p₁ p₂ p₃ p₄ p₅ p₆ others (suc (suc (suc (suc (suc zero))))) = p₅
+by-word P p₀ p₁ p₂ p₃ p₄ p₅ p₆ others (suc (suc (suc (suc (suc (suc zero)))))) = p₆
+by-word P p₀ p₁ p₂ p₃ p₄ p₅ p₆ others (suc (suc (suc (suc (suc (suc (suc w))))))) =
+    others (suc (suc (suc (suc (suc (suc (suc w))))))) (omega arith)
+
 pub row : (w : ℕ) → w < 7 → arity w ≡ getD parts-table w 0
 unfolding arity meaning binds
-row zero h = refl
-row (suc zero) h = refl
-row (suc (suc zero)) h = refl
-row (suc (suc (suc zero))) h = refl
-row (suc (suc (suc (suc zero)))) h = refl
-row (suc (suc (suc (suc (suc zero))))) h = refl
-row (suc (suc (suc (suc (suc (suc zero)))))) h = refl
-row (suc (suc (suc (suc (suc (suc (suc w))))))) h = absurd (omega arith)
+row =
+    by-word
+    (λ w. w < 7 → arity w ≡ getD parts-table w 0)
+    (λ _. refl) (λ _. refl) (λ _. refl) (λ _. refl) (λ _. refl) (λ _. refl) (λ _. refl)
+    (λ w low h. absurd (omega arith))
+
+-- From 7 on a word is a variable or means nothing: what holds of both holds of what the word means.
+pub from-seven : (P : Meaning → Type 0) (w : ℕ) → 7 ≤ w → P (a-variable (w - 16)) → P nothing → P (meaning w)
+unfolding meaning
+from-seven P w low of-variable of-nothing = rw (List·getD-eq-default table nothing low) (either (ltb w 16) (ltb w 2048))
+  where
+    either : (b c : Bool) → P (cond b nothing (cond c (a-variable (w - 16)) nothing))
+    either true c = of-nothing
+    either false true = of-variable
+    either false false = of-nothing
+
+pub no-binds : (w : ℕ) → 7 ≤ w → binds (meaning w) ≡ []
+unfolding binds
+no-binds w low = from-seven (λ m. binds m ≡ []) w low refl refl
 
 pub no-parts : (w : ℕ) → 7 ≤ w → arity w ≡ 0
-unfolding arity meaning binds
-no-parts w low = rw (List·getD-eq-default table nothing low) (either (ltb w 16) (ltb w 2048))
-  where
-    either : (b c : Bool) → length (binds (cond b nothing (cond c (a-variable (w - 16)) nothing))) ≡ 0
-    either true c = refl
-    either false true = refl
-    either false false = refl
+unfolding arity
+no-parts w low = rw (no-binds w low) refl
+
+-- A word has two parts at most, and binds one variable at most in the second.
+pub few-binds : (m : Meaning) → (length (binds m) ≤ 2) × (getD (binds m) 1 0 ≤ 1)
+unfolding binds
+few-binds a-star = (lit≤ tt, lit≤ tt)
+few-binds a-castdown = (lit≤ tt, lit≤ tt)
+few-binds an-app = (lit≤ tt, lit≤ tt)
+few-binds a-castup = (lit≤ tt, lit≤ tt)
+few-binds a-lam = (lit≤ tt, lit≤ tt)
+few-binds a-pi = (lit≤ tt, lit≤ tt)
+few-binds a-mu = (lit≤ tt, lit≤ tt)
+few-binds (a-variable i) = (lit≤ tt, lit≤ tt)
+few-binds nothing = (lit≤ tt, lit≤ tt)
 
 pub two-at-most : (w : ℕ) → arity w ≤ 2
-unfolding arity binds
-two-at-most w = at (meaning w)
-  where
-    at : (m : Meaning) → length (binds m) ≤ 2
-    at a-star = lit≤ tt
-    at a-castdown = lit≤ tt
-    at an-app = lit≤ tt
-    at a-castup = lit≤ tt
-    at a-lam = lit≤ tt
-    at a-pi = lit≤ tt
-    at a-mu = lit≤ tt
-    at (a-variable i) = lit≤ tt
-    at nothing = lit≤ tt
+unfolding arity
+two-at-most w = few-binds (meaning w) .0

@@ -75,8 +75,8 @@ fn from_byte(byte: u8) -> usize
     byte as usize
 }
 
-// Reads the closed term that the words begin with. The second of two parts is pending while the first is read: `rooms` and `scopes`
-// hold the levels left for each pending subterm and the binders around it, the one that comes next last.
+// Reads the closed term that the words begin with. The second of two parts is pending while the first is read: `rooms` and
+// `scopes` hold the levels left for each pending subterm and the binders around it, the one that comes next last.
 fn read_first(words: &[u16]) -> Subterm
     ensures { λ r. ⌜ subterm-of r ≡ skim (now (words .entry)) (pending deepest 0 ∷ []) 0 ⌝ }
 {

@@ -3,8 +3,8 @@ ghost use mathlib.Core.Path.{_≡_};
 ghost use Rattle.calculus.specs.Reading.{meaning};
 ghost use Rattle.term.specs.Word.{arity, meaning-of, parts-table};
 
-// Not in the order of the words throughout: as long as a meaning is the word itself, the compiler decides by a table of jumps, and
-// a jump to an unknown place costs more than a few comparisons (docs/PERFORMANCE.md).
+// Not in the order of the words throughout: as long as a meaning is the word itself, the compiler decides by a table of jumps,
+// and a jump to an unknown place costs more than a few comparisons (docs/PERFORMANCE.md).
 pub enum Meaning {
     Star,
     CastDown,

@@ -1,5 +1,5 @@
--- `find` meets its contract. What `read` accepts is a term's words; its own word says how many parts there are, and the walk over the
--- words behind it finds the first, and behind that the second.
+-- `find` meets its contract. What `read` accepts is a term's words; its own word says how many parts there are, and the walk over
+-- the words behind it finds the first, and behind that the second.
 use Prim.Native.Nat.{_+_, _≤_}
 use mathlib.Core.Logic.{⊎-elim}
 use mathlib.Core.Path.{_≡_, sym, ap, _∙_}
@@ -18,35 +18,17 @@ use Rattle.term.proofs.find.Tie as tie
 is-term : (c : tie.After-enum-told) → ok tt ≡ outcome (read (c .before .before .before .before .args .term .now))
 is-term c = ap reading-of (sym (c .enum-told .given .1)) ∙ c .before .before .read .ensures
 
-read-requires : tie.Need-read-requires
-read-requires c κs = search needs
-
-enum-told : tie.Need-enum-told
-enum-told c = search needs
-
-enum-told-2 : tie.Need-enum-told-2
-enum-told-2 c = search needs
-
 returns : tie.Need-returns
 returns c = found-refused _ _ (ap reading-of (sym (c .enum-told2 .given .1)) ∙ c .before .before .read .ensures)
 
 shared-slice-read-parts : tie.Need-shared-slice-read-parts
 shared-slice-read-parts c = inhabited _ (is-term (c .before .before))
 
-parts-requires : tie.Need-parts-requires
-parts-requires c κs = search needs
-
 sub-span : tie.Need-sub-span
 sub-span c = inhabited _ (is-term (c .before .before .before .before .before))
 
 part-span-start : tie.Need-part-span-start
 part-span-start c = inhabited _ (is-term (c .before .before .before .before .before))
-
-part-span-end : tie.Need-part-span-end
-part-span-end c = search needs
-
-span-requires : tie.Need-span-requires
-span-requires c κs = search needs
 
 returns-2 : tie.Need-returns-2
 returns-2 c =
@@ -61,21 +43,10 @@ sub-span-2 c = inhabited _ (is-term (c .before .before .before .before .before .
 part-span-start-2 : tie.Need-part-span-start-2
 part-span-start-2 c = inhabited _ (is-term (c .before .before .before .before .before .before))
 
-part-span-end-2 : tie.Need-part-span-end-2
-part-span-end-2 c = search needs
-
-span-requires-2 : tie.Need-span-requires-2
-span-requires-2 c κs = search needs
-
-add-second : tie.Need-add-second
-add-second c = search needs
-
-mul-span : tie.Need-mul-span
-mul-span c = search needs
-
 -- The first part ends within the words.
 second-within : (c : tie.After-span2)
-    → 1 + c .span2 .result ≤ length (c .before .before .before .before .before .before .before .before .before .before .before .before .args .term .now)
+    → let t = c .before .before .before .before .before .before .before .before in
+    1 + c .span2 .result ≤ length (t .before .before .before .before .args .term .now)
 second-within c =
     let t = c .before .before .before .before .before .before .before .before in
     let ws = t .before .before .before .before .args .term .now in
@@ -87,18 +58,13 @@ sub-span-3 c = second-within c
 part-span-start-3 : tie.Need-part-span-start-3
 part-span-start-3 c = second-within c
 
-part-span-end-3 : tie.Need-part-span-end-3
-part-span-end-3 c = search needs
-
-span-requires-3 : tie.Need-span-requires-3
-span-requires-3 c κs = search needs
-
 returns-3 : tie.Need-returns-3
 returns-3 c =
-    let p = c .before .before .before .before .before .before .before in
+    let tests = c .before .before .before .before in
+    let p = tests .before .before .before in
     rw
-    (c .before .before .before .before .before .if3 .taken, c .span3 .ensures .0, from-on, c .before .before .span2 .ensures .0, from-on)
-    (found-second _ (is-term (p .before .before .before)) (omega (arith, p .parts .ensures, c .before .before .before .before .if4 .taken)))
+    (tests .before .if3 .taken, c .span3 .ensures .0, from-on, c .before .before .span2 .ensures .0, from-on)
+    (found-second _ (is-term (p .before .before .before)) (omega (arith, p .parts .ensures, tests .if4 .taken)))
 
 returns-4 : tie.Need-returns-4
 returns-4 c =
@@ -119,27 +85,7 @@ pub find-spec : {M : Type 1} → statement M
 find-spec =
     tie.close
     (tie.spec
-    read-requires
-    enum-told
-    enum-told-2
-    returns
-    shared-slice-read-parts
-    parts-requires
-    sub-span
-    part-span-start
-    part-span-end
-    span-requires
-    returns-2
-    sub-span-2
-    part-span-start-2
-    part-span-end-2
-    span-requires-2
-    add-second
-    mul-span
-    sub-span-3
-    part-span-start-3
-    part-span-end-3
-    span-requires-3
-    returns-3
-    returns-4
-    returns-5)
+    (λ c κs. search needs) (λ c. search needs) (λ c. search needs) returns shared-slice-read-parts (λ c κs. search needs)
+    sub-span part-span-start (λ c. search needs) (λ c κs. search needs) returns-2 sub-span-2 part-span-start-2
+    (λ c. search needs) (λ c κs. search needs) (λ c. search needs) (λ c. search needs) sub-span-3 part-span-start-3
+    (λ c. search needs) (λ c κs. search needs) returns-3 returns-4 returns-5)

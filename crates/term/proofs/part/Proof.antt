@@ -11,22 +11,15 @@ use Rattle.term.proofs.part.Statement.{statement}
 use Rattle.term.proofs.part.Tie as tie
 
 within : (c : tie.After-find) → c .find .result .start + c .find .result .length ≤ length (c .before .before .args .term .now)
-within c = subst (λ (f : Found). f .start + f .extent ≤ length (c .before .before .args .term .now)) (sym (c .find .ensures)) (found-within _ _)
-
-find-requires : tie.Need-find-requires
-find-requires c κs = search needs
+within c =
+    let ws = c .before .before .args .term .now in
+    subst (λ (f : Found). f .start + f .extent ≤ length ws) (sym (c .find .ensures)) (found-within _ _)
 
 add-end : tie.Need-add-end
 add-end c = omega (arith, within (c .before))
 
 mul-result : tie.Need-mul-result
 mul-result c = omega (arith, within (c .before))
-
-sub-result : tie.Need-sub-result
-sub-result c = search needs
-
-part-result-start : tie.Need-part-result-start
-part-result-start c = search needs
 
 part-result-end : tie.Need-part-result-end
 part-result-end c = within (c .before)
@@ -38,11 +31,4 @@ returns c = rw (add-sub-cancel-left, ← c .before .before .find .ensures) refl
 pub part-spec : {M : Type 1} → statement M
 part-spec =
     tie.close
-    (tie.spec
-    find-requires
-    add-end
-    mul-result
-    sub-result
-    part-result-start
-    part-result-end
-    returns)
+    (tie.spec (λ c κs. search needs) add-end mul-result (λ c. search needs) (λ c. search needs) part-result-end returns)

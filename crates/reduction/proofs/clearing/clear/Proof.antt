@@ -23,56 +23,22 @@ abbrev μ-loop : tie.MeasureT-loop
 loop-holds : tie.Need-loop-holds Inv-loop μ-loop
 loop-holds c = (omega arith, refl, cleared-none (now (c .before .args .work)))
 
-mul-from : tie.Need-mul-from Inv-loop μ-loop
-mul-from c = omega arith
-
-add-to : tie.Need-add-to Inv-loop μ-loop
-add-to c = omega arith
-
-mul-is-clear : tie.Need-mul-is-clear Inv-loop μ-loop
-mul-is-clear c = omega arith
-
-sub-is-clear : tie.Need-sub-is-clear Inv-loop μ-loop
-sub-is-clear c = omega arith
-
-part-is-clear-start : tie.Need-part-is-clear-start Inv-loop μ-loop
-part-is-clear-start c = omega arith
-
-part-is-clear-end : tie.Need-part-is-clear-end Inv-loop μ-loop
-part-is-clear-end c = omega arith
-
-mul-fill : tie.Need-mul-fill Inv-loop μ-loop
-mul-fill c = omega arith
-
-sub-fill : tie.Need-sub-fill Inv-loop μ-loop
-sub-fill c = omega arith
-
-part-fill-start : tie.Need-part-fill-start Inv-loop μ-loop
-part-fill-start c = omega arith
-
-part-fill-end : tie.Need-part-fill-end Inv-loop μ-loop
-part-fill-end c = omega arith
-
-add-block : tie.Need-add-block Inv-loop μ-loop
-add-block c = omega arith
-
-loop-less : tie.Need-loop-less Inv-loop μ-loop
-loop-less c = omega arith
-
 loop-again : tie.Need-loop-again Inv-loop μ-loop
 loop-again c =
-    let work = now (c .before .before .before .before .before .before .before .args .work) in
-    let from = 512 * c .before .before .before .before .before .loop .block in
-    let l : from + 512 ≤ length work = omega arith in
-    let e : from + 512 ≡ 512 * (c .before .before .before .before .before .loop .block + 1) = omega arith in
+    let start = c .before .before .before .before .before in
+    let work = now (start .before .before .args .work) in
+    let l = start .loop in
+    let from = 512 * l .block in
+    let inside : from + 512 ≤ length work = omega arith in
+    let next : from + 512 ≡ 512 * (l .block + 1) = omega arith in
     let h : c .if1 .work ≡ cleared (from + 512) work =
-    cleared-more from (from + 512) work (omega arith) l (c .before .before .before .before .before .loop .inv .2)
+    cleared-more from (from + 512) work (omega arith) inside (l .inv .2)
     (⊎-elim
-    (λ w. w .5 ∙ ap (putMid from (from + 512 - from) (c .before .before .before .before .before .loop .work)) (w .2 .ensures))
-    (λ w. w .1 ∙ part-clear from (from + 512 - from) (c .before .before .before .before .before .loop .work) (c .before .is-clear .ensures .0 (not-false _ (w .0 .left))))
+    (λ w. w .5 ∙ ap (putMid from (from + 512 - from) (l .work)) (w .2 .ensures))
+    (λ w. w .1 ∙ part-clear from (from + 512 - from) (l .work) (c .before .is-clear .ensures .0 (not-false _ (w .0 .left))))
     (c .if1 .came))
     in
-    (omega arith, ap length h ∙ cleared-length (from + 512) work l, h ∙ ap (λ k. cleared k work) e)
+    (omega arith, ap length h ∙ cleared-length (from + 512) work inside, h ∙ ap (λ k. cleared k work) next)
 
 same-length : tie.Need-same-length Inv-loop μ-loop
 same-length c = c .before .loop .inv .1
@@ -87,6 +53,6 @@ pub clear-spec : {M : Type 1} → statement M
 clear-spec =
     tie.close
     (tie.spec
-    Inv-loop μ-loop loop-holds mul-from add-to mul-is-clear sub-is-clear part-is-clear-start part-is-clear-end
-    (λ c κs. search needs) mul-fill sub-fill part-fill-start part-fill-end (λ c κs. search needs) add-block loop-less loop-again
-    same-length returns)
+    Inv-loop μ-loop loop-holds (λ c. search needs) (λ c. search needs) (λ c. search needs) (λ c. search needs)
+    (λ c. search needs) (λ c. search needs) (λ c κs. search needs) (λ c. search needs) (λ c. search needs) (λ c. search needs)
+    (λ c. search needs) (λ c κs. search needs) (λ c. search needs) (λ c. search needs) loop-again same-length returns)

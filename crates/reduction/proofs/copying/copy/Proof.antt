@@ -1,5 +1,5 @@
--- `copy` meets its contract. The loop's invariant: the output is as it was with the first `i` words of the source stored from `at`
--- on, and there is room for all of them.
+-- `copy` meets its contract. The loop's invariant: the output is as it was with the first `i` words of the source stored from
+-- `at` on, and there is room for all of them.
 use Prim.Native.Nat.{_+_, _-_, _≤_}
 use mathlib.Core.Path.{_≡_, refl, ap, _∙_}
 use borrow.Author.Needs.{needs}
@@ -7,7 +7,7 @@ use native.Mathlib.Omega.{arith}
 use lib.ListN.{length, take, length-set}
 use lib.Seq.{sets, take-all}
 use Rattle.reduction.proofs.Stores.{sets-next}
-use Rattle.reduction.proofs.Wrote.{writes-all, writes-short}
+use Rattle.reduction.proofs.Wrote.{written-all, written-short}
 use Rattle.reduction.proofs.copying.copy.Statement.{statement}
 use Rattle.reduction.proofs.copying.copy.Tie as tie
 
@@ -23,7 +23,7 @@ abbrev μ-loop : tie.MeasureT-loop
 μ-loop source out₀ at count i₀ out i = count - i
 
 returns : tie.Need-returns Inv-loop μ-loop
-returns c = writes-short (record { short = omega arith; kept = refl })
+returns c = written-short (record { short = omega arith; kept = refl })
 
 loop-again : tie.Need-loop-again Inv-loop μ-loop
 loop-again c =
@@ -41,7 +41,7 @@ returns-2 : tie.Need-returns-2 Inv-loop μ-loop
 returns-2 c =
     let a = c .before .before .before .args in
     let inv = c .before .loop .inv in
-    writes-all
+    written-all
     (record {
       room = omega arith;
       place = omega arith;

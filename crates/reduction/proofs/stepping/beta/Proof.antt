@@ -1,5 +1,5 @@
--- `beta` meets its contract: the walks find the annotation, the body and the argument of the application, one behind the other, and the
--- body with the argument put in is what the application steps to.
+-- `beta` meets its contract: the walks find the annotation, the body and the argument of the application, one behind the other,
+-- and the body with the argument put in is what the application steps to.
 use Prim.Native.Nat.{_+_, _≤_}
 use mathlib.Core.Path.{refl}
 use native.Mathlib.Omega.{arith}
@@ -25,7 +25,8 @@ two-words c = omega (arith, placed-within (redex c .3))
 annotation : (c : tie.After-span)
     → let s = c .before .before .before .before in
     let r = redex s in
-    Spanned (s .args .state .now) (s .args .at + 2) (r .0) (emit (r .1) (emit (r .2) (r .3 .rest))) (s .args .at + 2 + c .span .result)
+    let n = s .args .at + 2 in
+    Spanned (s .args .state .now) n (r .0) (emit (r .1) (emit (r .2) (r .3 .rest))) (n + c .span .result)
 unfolding emit
 annotation c =
     let s = c .before .before .before .before in

@@ -1,5 +1,5 @@
--- `cancel` meets its contract: the walk over the annotation finds the body of the up cast, which is what the down cast steps to; it and
--- all behind it is copied at once.
+-- `cancel` meets its contract: the walk over the annotation finds the body of the up cast, which is what the down cast steps to;
+-- it and all behind it is copied at once.
 use Prim.Native.Nat.{_+_, _≤_}
 use mathlib.Core.Path.{refl, sym}
 use native.Mathlib.Omega.{arith}

@@ -1,5 +1,5 @@
--- `find_redex` meets its contract: each return gives the redex that the word behind the leading down casts and applications, and the one
--- before it, decide.
+-- `find_redex` meets its contract: each return gives the redex that the word behind the leading down casts and applications, and
+-- the one before it, decide.
 use Prim.Native.Nat.{_<_}
 use mathlib.Core.List.{[], _∷_}
 use mathlib.Core.Path.{refl, sym, ap}
@@ -7,12 +7,18 @@ use native.Mathlib.Omega.{arith}
 use borrow.Author.Needs.{needs}
 use lib.ListN.{length}
 use Rattle.reduction.specs.declared.stepping.Redex.the-variants.{Unfold}
-use Rattle.reduction.proofs.Deciding.{heads-within, found, found-framed}
+use Rattle.reduction.proofs.Deciding.{heads-within, Decides, found, found-framed}
 use Rattle.reduction.proofs.stepping.find_redex.Statement.{statement}
 use Rattle.reduction.proofs.stepping.find_redex.Tie as tie
 
 inside : (c : tie.After-leading) → c .leading .result < length (c .before .before .args .state .now)
 inside c = heads-within (c .before .before .pre) (c .leading .ensures)
+
+-- The word behind the leading down casts and applications.
+decides : (c : tie.After-classify)
+    → let l = c .before .before in
+    Decides (l .before .before .args .state .now) (l .leading .result) (c .classify .result)
+decides c = record { counted = c .before .before .leading .ensures; known = c .classify .ensures }
 
 mul-classify : tie.Need-mul-classify
 mul-classify c = omega (arith, inside c)
@@ -22,24 +28,18 @@ shared-slice-read-classify c = inside (c .before)
 
 returns : tie.Need-returns
 returns c =
-    let m = c .before .before .classify in
     found
-    (m .result)
+    (decides (c .before .before))
     (0 ∷ 6 ∷ [])
-    (c .before .before .before .before .leading .ensures)
-    (m .ensures)
     (c .before .match .keys2)
     (λ _. (refl, (refl, tt)))
     (λ n. absurd (n (c .if1 .taken)))
 
 returns-2 : tie.Need-returns-2
 returns-2 c =
-    let m = c .before .before .before .classify in
     found
-    (m .result)
+    (decides (c .before .before .before))
     (4 ∷ [])
-    (c .before .before .before .before .before .leading .ensures)
-    (m .ensures)
     (c .before .before .match .keys3)
     (λ _. (refl, tt))
     (λ n. absurd (n (c .if2 .taken)))
@@ -52,29 +52,23 @@ shared-slice-read-classify-2 c = omega (arith, inside (c .before .before .before
 
 returns-3 : tie.Need-returns-3
 returns-3 c =
-    let m = c .before .before .before .before .before .before .before .classify in
     let k = c .before .before .classify2 in
     found-framed
-    (m .result)
+    (decides (c .before .before .before .before .before .before .before))
     (4 ∷ [])
-    (c .before .before .before .before .before .before .before .before .before .leading .ensures)
-    (m .ensures)
     (c .before .before .before .before .before .before .match .keys3)
     (k .result)
     (2 ∷ [])
     (k .ensures)
     (c .before .match2 .keys1)
     (c .before .before .before .before .if2 .left)
-    (((refl, tt), tt))
+    ((refl, tt), tt)
 
 returns-4 : tie.Need-returns-4
 returns-4 c =
-    let m = c .before .before .before .classify in
     found
-    (m .result)
+    (decides (c .before .before .before))
     (3 ∷ [])
-    (c .before .before .before .before .before .leading .ensures)
-    (m .ensures)
     (c .before .before .match .keys4)
     (λ _. (refl, tt))
     (λ n. absurd (n (c .if3 .taken)))
@@ -87,87 +81,64 @@ shared-slice-read-classify-3 c = omega (arith, inside (c .before .before .before
 
 returns-5 : tie.Need-returns-5
 returns-5 c =
-    let m = c .before .before .before .before .before .before .before .classify in
     let k = c .before .before .classify3 in
     found-framed
-    (m .result)
+    (decides (c .before .before .before .before .before .before .before))
     (3 ∷ [])
-    (c .before .before .before .before .before .before .before .before .before .leading .ensures)
-    (m .ensures)
     (c .before .before .before .before .before .before .match .keys4)
     (k .result)
     (1 ∷ [])
     (k .ensures)
     (c .before .match3 .keys1)
     (c .before .before .before .before .if3 .left)
-    (((refl, tt), tt))
+    ((refl, tt), tt)
 
 returns-6 : tie.Need-returns-6
 returns-6 c =
-    let m = c .before .before .classify in
-    found
-    (m .result)
-    (5 ∷ [])
-    (c .before .before .before .before .leading .ensures)
-    (m .ensures)
-    (c .before .match .keys1)
-    (λ z. (ap Unfold (sym z), tt))
-    (λ _. (refl, tt))
+    found (decides (c .before .before)) (5 ∷ []) (c .before .match .keys1) (λ z. (ap Unfold (sym z), tt)) (λ _. (refl, tt))
 
 returns-7 : tie.Need-returns-7
 returns-7 c =
-    let m = c .before .before .classify in
     found
-    (m .result)
+    (decides (c .before .before))
     (0 ∷ 6 ∷ [])
-    (c .before .before .before .before .leading .ensures)
-    (m .ensures)
     (c .before .match .keys2)
     (λ z. absurd (c .if1 .left z))
     (λ _. (refl, (refl, tt)))
 
 returns-8 : tie.Need-returns-8
 returns-8 c =
-    let m = c .before .before .before .before .before .before .classify in
     let k = c .before .classify2 in
     found-framed
-    (m .result)
+    (decides (c .before .before .before .before .before .before))
     (4 ∷ [])
-    (c .before .before .before .before .before .before .before .before .leading .ensures)
-    (m .ensures)
     (c .before .before .before .before .before .match .keys3)
     (k .result)
     (0 ∷ 1 ∷ 3 ∷ 4 ∷ 5 ∷ 6 ∷ 7 ∷ 8 ∷ [])
     (k .ensures)
     (c .match2 .keys2)
     (c .before .before .before .if2 .left)
-    (((refl, tt), ((refl, tt), ((refl, tt), ((refl, tt), ((refl, tt), ((refl, tt), ((refl, tt), ((refl, tt), tt)))))))))
+    ((refl, tt), ((refl, tt), ((refl, tt), ((refl, tt), ((refl, tt), ((refl, tt), ((refl, tt), ((refl, tt), tt))))))))
 
 returns-9 : tie.Need-returns-9
 returns-9 c =
-    let m = c .before .before .before .before .before .before .classify in
     let k = c .before .classify3 in
     found-framed
-    (m .result)
+    (decides (c .before .before .before .before .before .before))
     (3 ∷ [])
-    (c .before .before .before .before .before .before .before .before .leading .ensures)
-    (m .ensures)
     (c .before .before .before .before .before .match .keys4)
     (k .result)
     (0 ∷ 2 ∷ 3 ∷ 4 ∷ 5 ∷ 6 ∷ 7 ∷ 8 ∷ [])
     (k .ensures)
     (c .match3 .keys2)
     (c .before .before .before .if3 .left)
-    (((refl, tt), ((refl, tt), ((refl, tt), ((refl, tt), ((refl, tt), ((refl, tt), ((refl, tt), ((refl, tt), tt)))))))))
+    ((refl, tt), ((refl, tt), ((refl, tt), ((refl, tt), ((refl, tt), ((refl, tt), ((refl, tt), ((refl, tt), tt))))))))
 
 returns-10 : tie.Need-returns-10
 returns-10 c =
-    let m = c .before .classify in
     found
-    (m .result)
+    (decides (c .before))
     (7 ∷ 8 ∷ 1 ∷ 2 ∷ [])
-    (c .before .before .before .leading .ensures)
-    (m .ensures)
     (c .match .keys5)
     (λ _. (refl, (refl, (refl, (refl, tt)))))
     (λ _. (refl, (refl, (refl, (refl, tt)))))

@@ -1,5 +1,5 @@
--- `leading` meets its contract. The loop's invariant: the words passed are all down casts and applications, so that those of the whole
--- list are as many and those of what is left.
+-- `leading` meets its contract. The loop's invariant: the words passed are all down casts and applications, so that those of the
+-- whole list are as many and those of what is left.
 use Prim.Native.Nat.{ℕ, suc, _+_, _-_, _≤_}
 use mathlib.Core.Bool.{Bool, true, false, cond}
 use mathlib.Core.List.{List, [], _∷_}
@@ -41,8 +41,9 @@ counted c ks b one each =
 
 returns : tie.Need-returns Inv-loop μ-loop
 returns c =
-    omega
-    (arith, counted (c .before) (0 ∷ 3 ∷ 4 ∷ 5 ∷ 6 ∷ 7 ∷ 8 ∷ []) false (c .match .keys2) (refl, (refl, (refl, (refl, (refl, (refl, (refl, tt))))))))
+    let others : List ℕ = 0 ∷ 3 ∷ 4 ∷ 5 ∷ 6 ∷ 7 ∷ 8 ∷ [] in
+    let each : Each (λ k. framing k ≡ false) others = (refl, (refl, (refl, (refl, (refl, (refl, (refl, tt))))))) in
+    omega (arith, counted (c .before) others false (c .match .keys2) each)
 
 loop-less : tie.Need-loop-less Inv-loop μ-loop
 loop-less c = omega arith
@@ -60,5 +61,5 @@ pub leading-spec : {M : Type 1} → statement M
 leading-spec =
     tie.close
     (tie.spec
-    Inv-loop μ-loop loop-holds (λ c. search needs) (λ c. search needs) (λ c κs. search needs) returns (λ c. search needs) loop-less
-    loop-again returns-2)
+    Inv-loop μ-loop loop-holds (λ c. search needs) (λ c. search needs) (λ c κs. search needs) returns (λ c. search needs)
+    loop-less loop-again returns-2)

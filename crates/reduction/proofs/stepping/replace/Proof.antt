@@ -1,5 +1,5 @@
--- `replace` meets its contract: it writes what stands before the redex, then the instantiated body, then what stands behind, each where
--- the last ended.
+-- `replace` meets its contract: it writes what stands before the redex, then the instantiated body, then what stands behind, each
+-- where the last ended.
 use mathlib.Core.List.{_++_}
 use mathlib.Core.Path.{sym}
 use lib.ListN.{take}
@@ -12,15 +12,20 @@ use Rattle.reduction.proofs.stepping.replace.Statement.{statement}
 use Rattle.reduction.proofs.stepping.replace.Tie as tie
 
 slice-aggregate-copy : tie.Need-slice-aggregate-copy
-slice-aggregate-copy c = let s = c .before .before .before .before .before in sym (length-take-le (s .args .at) (s .args .state .now) (s .pre .0))
+slice-aggregate-copy c =
+    let s = c .before .before .before .before .before in
+    sym (length-take-le (s .args .at) (s .args .state .now) (s .pre .0))
 
 returns : tie.Need-returns
-returns c = arrives-short (lacked-more _ (lacked-more _ (lacked-of (c .before .before .before .before .copy .ensures) (c .enum-told .given .1))))
+returns c =
+    let l = lacked-of (c .before .before .before .before .copy .ensures) (c .enum-told .given .1) in
+    arrives-short (lacked-more _ (lacked-more _ l))
 
 -- What stands before the redex is written.
 front : (c : tie.After-from)
-    → let s = c .before .before .before .before .before .before .before .before .before .before .before .args in
-    Wrote (take (s .at) (s .state .now)) (s .out .now) 0 (c .from .given .0 .0) (c .before .before .before .before .copy .last .1 .0)
+    → let copied = c .before .before .before .before in
+    let s = copied .before .before .before .before .before .before .before .args in
+    Wrote (take (s .at) (s .state .now)) (s .out .now) 0 (c .from .given .0 .0) (copied .copy .last .1 .0)
 front c = wrote-of (c .before .before .before .before .copy .ensures) (c .from .given .1)
 
 substitute-requires : tie.Need-substitute-requires
@@ -45,7 +50,9 @@ middle : (c : tie.After-next)
     0
     (c .next .given .0 .0)
     (put .last .1 .1 .1 .0)
-middle c = wrote-both (front (c .before .before .before .before .before .before .before)) (wrote-of (c .before .before .before .before .substitute .ensures) (c .next .given .1))
+middle c =
+    let put = c .before .before .before .before in
+    wrote-both (front (put .before .before .before)) (wrote-of (put .substitute .ensures) (c .next .given .1))
 
 finish-requires : tie.Need-finish-requires
 finish-requires c κs = next-within (middle (c .before .before .before))
@@ -53,7 +60,8 @@ finish-requires c κs = next-within (middle (c .before .before .before))
 returns-3 : tie.Need-returns-3
 returns-3 c =
     let w = c .before .before .before .before .before .before in
-    let s = w .before .before .before .before .before .before .before .before .before .before .before .before .before .before .before .before .before .before .args in
+    let from = w .before .before .before .before .before .before .before in
+    let s = from .before .before .before .before .before .before .before .before .before .before .before .args in
     arrives (s .state .now) (s .end) (middle w) (c .before .before .finish .ensures)
 
 pub replace-spec : {M : Type 1} → statement M

@@ -1,5 +1,5 @@
--- `step` meets its contract: the redex that is found is the term's, and its rule gives the next state; where there is none, the term is a
--- value or stuck.
+-- `step` meets its contract: the redex that is found is the term's, and its rule gives the next state; where there is none, the
+-- term is a value or stuck.
 use mathlib.Core.Path.{_≡_, sym, _∙_}
 use borrow.Author.Needs.{needs}
 use Rattle.reduction.specs.declared.stepping.Redex.{Redex}
@@ -8,7 +8,9 @@ use Rattle.reduction.proofs.Placing.{value-stays, stuck-stays}
 use Rattle.reduction.proofs.stepping.step.Statement.{statement}
 use Rattle.reduction.proofs.stepping.step.Tie as tie
 
-located : (c : tie.After-find-redex) {r : Redex} → c .find-redex .result ≡ r → Located (c .before .before .before .args .state .now) r
+located : (c : tie.After-find-redex) {r : Redex}
+    → c .find-redex .result ≡ r
+    → Located (c .before .before .before .args .state .now) r
 located c told =
     let p = c .before .before .before .pre in
     (p .term, p .coded, sym (c .find-redex .ensures (p .term) (p .coded)) ∙ told)

@@ -1,5 +1,5 @@
--- `unfold` meets its contract: the walks find the annotation and the body of the recursion, and the body with the whole recursion put in
--- is what the recursion steps to.
+-- `unfold` meets its contract: the walks find the annotation and the body of the recursion, and the body with the whole recursion
+-- put in is what the recursion steps to.
 use Prim.Native.Nat.{_+_, _≤_}
 use mathlib.Core.Path.{refl}
 use native.Mathlib.Omega.{arith}
@@ -42,7 +42,9 @@ recursion : (c : tie.After-behind)
     let r = redex s in
     Spanned (s .args .state .now) (s .args .at) (mu (r .0) (r .1)) (r .2 .rest) (c .behind .result)
 unfolding size
-recursion c = spanned (redex (c .before .before .before .before .before) .2 .here) (omega (arith, body c .count, annotation (c .before) .count))
+recursion c =
+    let r = redex (c .before .before .before .before .before) in
+    spanned (r .2 .here) (omega (arith, body c .count, annotation (c .before) .count))
 
 add-annotation : tie.Need-add-annotation
 add-annotation c = omega (arith, one-word (c .before .before))
@@ -68,7 +70,8 @@ replace-requires : tie.Need-replace-requires
 unfolding Scoped
 replace-requires c κs =
     let s = c .before .before .before .before .before .before .before .before in
-    replaceable (redex s .2) (body (c .before .before .before)) (recursion (c .before .before .before)) (s .pre .0) (λ n h. h .1) (λ n h. h)
+    let parts = c .before .before .before in
+    replaceable (redex s .2) (body parts) (recursion parts) (s .pre .0) (λ n h. h .1) (λ n h. h)
 
 returns : tie.Need-returns
 unfolding step

@@ -1,4 +1,5 @@
--- `read` meets its contract: by the length of the list, and otherwise by what skimming it for one closed term of 64 levels answers.
+-- `read` meets its contract: by the length of the list, and otherwise by what skimming it for one closed term of 64 levels
+-- answers.
 use mathlib.Core.Path.{sym, ap, _∙_}
 use native.Mathlib.Nat.{pos-of-ne-zero}
 use borrow.Author.Needs.{needs}
@@ -12,15 +13,6 @@ returns c = read-empty _ (c .if1 .taken)
 
 returns-2 : tie.Need-returns-2
 returns-2 c = read-long _ (c .if2 .taken)
-
-read-first-requires : tie.Need-read-first-requires
-read-first-requires c κs = search needs
-
-enum-known-refusal : tie.Need-enum-known-refusal
-enum-known-refusal c = search needs
-
-enum-known-end : tie.Need-enum-known-end
-enum-known-end c = search needs
 
 returns-3 : tie.Need-returns-3
 returns-3 c =
@@ -54,12 +46,4 @@ returns-5 c =
 pub read-spec : {M : Type 1} → statement M
 read-spec =
     tie.close
-    (tie.spec
-    returns
-    returns-2
-    read-first-requires
-    enum-known-refusal
-    enum-known-end
-    returns-3
-    returns-4
-    returns-5)
+    (tie.spec returns returns-2 (λ c κs. search needs) (λ c. search needs) (λ c. search needs) returns-3 returns-4 returns-5)

@@ -1,10 +1,11 @@
--- `read_first` meets its contract. The invariant: skimming from the start answers what skimming from `at` answers, with the subterm at
--- hand before those that the arrays hold. The measure is what is left of the words.
+-- `read_first` meets its contract. The invariant: skimming from the start answers what skimming from `at` answers, with the
+-- subterm at hand before those that the arrays hold. The measure is what is left of the words.
 use Prim.Native.Nat.{_+_, _-_}
 use mathlib.Core.Logic.{⊎-elim}
 use mathlib.Core.Path.{_≡_, refl, sym, ap, _∙_}
 use native.Mathlib.Nat.{pos-of-ne-zero}
 use native.Mathlib.Omega.{arith}
+use borrow.Author.Needs.{needs}
 use lib.ListN.{length, getD}
 use Rattle.term.specs.declared.reading.Visit.{Visit}
 use Rattle.term.specs.Subterms.{pending, visited, visit-of}
@@ -14,7 +15,8 @@ use Rattle.term.proofs.reading.read_first.Statement.{statement}
 use Rattle.term.proofs.reading.read_first.Tie as tie
 
 abbrev Inv-loop : tie.InvT-loop
-Inv-loop words rooms₀ scopes₀ waiting₀ at₀ room₀ binders₀ rooms scopes waiting at room binders = Stands words rooms scopes waiting at room binders
+Inv-loop words rooms₀ scopes₀ waiting₀ at₀ room₀ binders₀ rooms scopes waiting at room binders =
+    Stands words rooms scopes waiting at room binders
 
 abbrev μ-loop : tie.MeasureT-loop
 μ-loop words rooms₀ scopes₀ waiting₀ at₀ room₀ binders₀ rooms scopes waiting at room binders = length words - at
@@ -27,7 +29,9 @@ seen : (c : tie.After-tested Inv-loop μ-loop) {v : Visit}
     (getD (c .before .before .before .before .before .args .words .now) (c .before .before .before .loop .at) 0)
     (pending (c .before .before .before .loop .room) (c .before .before .before .loop .binders))
     (c .before .before .before .loop .at)
-seen c e = ap (λ v. visit-of v (c .before .before .before .loop .at)) (sym e) ∙ c .tested .ensures (c .before .before .before .loop .at)
+seen c e =
+    let at = c .before .before .before .loop .at in
+    ap (λ v. visit-of v at) (sym e) ∙ c .tested .ensures at
 
 -- The second part of a node, which is left pending, fits.
 second : (c : tie.After-known-told2 Inv-loop μ-loop)
@@ -42,33 +46,16 @@ second c =
 loop-holds : tie.Need-loop-holds Inv-loop μ-loop
 loop-holds c = begins _ _ _ refl refl
 
-mul-tested : tie.Need-mul-tested Inv-loop μ-loop
-mul-tested c = omega arith
-
-shared-slice-read-tested : tie.Need-shared-slice-read-tested Inv-loop μ-loop
-shared-slice-read-tested c = c .before .loop-test .taken
-
-tested-requires : tie.Need-tested-requires Inv-loop μ-loop
-tested-requires c κs = tt
-
-enum-known-reason : tie.Need-enum-known-reason Inv-loop μ-loop
-enum-known-reason c = c .match .keys1
-
 returns : tie.Need-returns Inv-loop μ-loop
 returns c =
     let i = c .before .before .before .before .before in
     turn-refused (i .before .loop .inv) (i .loop-test .taken) (seen (c .before .before .before) (c .before .reason .given .1))
 
-enum-told : tie.Need-enum-told Inv-loop μ-loop
-enum-told c = c .match .keys2
-
-add-t17 : tie.Need-add-t17 Inv-loop μ-loop
-add-t17 c = omega arith
-
 returns-2 : tie.Need-returns-2 Inv-loop μ-loop
 returns-2 c =
     let i = c .before .before .before .before .before in
-    turn-last (i .before .loop .inv) (i .loop-test .taken) (c .if1 .taken) (seen (c .before .before .before) (c .before .enum-told .given .1))
+    let leaf = seen (c .before .before .before) (c .before .enum-told .given .1) in
+    turn-last (i .before .loop .inv) (i .loop-test .taken) (c .if1 .taken) leaf
 
 sub-waiting : tie.Need-sub-waiting Inv-loop μ-loop
 sub-waiting c = pos-of-ne-zero (c .if1 .left)
@@ -78,23 +65,11 @@ array-read-from-byte c =
     let i = c .before .before .before .before .before .before .loop .inv in
     omega (arith, pos-of-ne-zero (c .if1 .left), i .fits .few)
 
-from-byte-requires : tie.Need-from-byte-requires Inv-loop μ-loop
-from-byte-requires c κs = tt
-
 array-read-from-byte-2 : tie.Need-array-read-from-byte-2 Inv-loop μ-loop
 array-read-from-byte-2 c = array-read-from-byte (c .before)
 
-from-byte-requires-2 : tie.Need-from-byte-requires-2 Inv-loop μ-loop
-from-byte-requires-2 c κs = tt
-
-enum-told-2 : tie.Need-enum-told-2 Inv-loop μ-loop
-enum-told-2 c = c .match .keys3
-
 sub-room : tie.Need-sub-room Inv-loop μ-loop
 sub-room c = has-level _ _ _ (seen (c .before .before) (c .enum-told2 .given .1))
-
-enum-known-bound : tie.Need-enum-known-bound Inv-loop μ-loop
-enum-known-bound c = c .match .keys4
 
 sub-room-2 : tie.Need-sub-room-2 Inv-loop μ-loop
 sub-room-2 c = has-level _ _ _ (seen (c .before .before .before) (c .before .bound .given .1))
@@ -116,9 +91,6 @@ array-write-scopes c = omega (arith, second (c .before .before) .few)
 
 add-waiting : tie.Need-add-waiting Inv-loop μ-loop
 add-waiting c = omega (arith, second (c .before .before) .few)
-
-add-at : tie.Need-add-at Inv-loop μ-loop
-add-at c = omega arith
 
 loop-less : tie.Need-loop-less Inv-loop μ-loop
 loop-less c = omega (arith, c .before .before .before .loop-test .taken)
@@ -150,33 +122,8 @@ pub read-first-spec : {M : Type 1} → statement M
 read-first-spec =
     tie.close
     (tie.spec
-    Inv-loop
-    μ-loop
-    loop-holds
-    mul-tested
-    shared-slice-read-tested
-    tested-requires
-    enum-known-reason
-    returns
-    enum-told
-    add-t17
-    returns-2
-    sub-waiting
-    array-read-from-byte
-    from-byte-requires
-    array-read-from-byte-2
-    from-byte-requires-2
-    enum-told-2
-    sub-room
-    enum-known-bound
-    sub-room-2
-    to-byte-requires
-    array-write-rooms
-    add-to-byte
-    to-byte-requires-2
-    array-write-scopes
-    add-waiting
-    add-at
-    loop-less
-    loop-again
+    Inv-loop μ-loop loop-holds (λ c. search needs) (λ c. search needs) (λ c κs. search needs) (λ c. search needs) returns
+    (λ c. search needs) (λ c. search needs) returns-2 sub-waiting array-read-from-byte (λ c κs. search needs)
+    array-read-from-byte-2 (λ c κs. search needs) (λ c. search needs) sub-room (λ c. search needs) sub-room-2 to-byte-requires
+    array-write-rooms add-to-byte to-byte-requires-2 array-write-scopes add-waiting (λ c. search needs) loop-less loop-again
     returns-3)

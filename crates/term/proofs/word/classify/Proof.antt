@@ -7,34 +7,6 @@ use Rattle.term.proofs.Words.{gap, variable, beyond}
 use Rattle.term.proofs.word.classify.Statement.{statement}
 use Rattle.term.proofs.word.classify.Tie as tie
 
-returns : tie.Need-returns
-unfolding meaning
-returns c = ap meaning (sym (c .match .keys1))
-
-returns-2 : tie.Need-returns-2
-unfolding meaning
-returns-2 c = ap meaning (sym (c .match .keys2))
-
-returns-3 : tie.Need-returns-3
-unfolding meaning
-returns-3 c = ap meaning (sym (c .match .keys3))
-
-returns-4 : tie.Need-returns-4
-unfolding meaning
-returns-4 c = ap meaning (sym (c .match .keys4))
-
-returns-5 : tie.Need-returns-5
-unfolding meaning
-returns-5 c = ap meaning (sym (c .match .keys5))
-
-returns-6 : tie.Need-returns-6
-unfolding meaning
-returns-6 c = ap meaning (sym (c .match .keys6))
-
-returns-7 : tie.Need-returns-7
-unfolding meaning
-returns-7 c = ap meaning (sym (c .match .keys7))
-
 past : (k : ℕ) {w : ℕ} → k ≤ w → (w ≡ k → ⊥) → suc k ≤ w
 past k h n = omega arith
 
@@ -55,16 +27,10 @@ returns-10 : tie.Need-returns-10
 returns-10 c = sym (beyond (c .before .before .before .args .word) (c .if2 .left))
 
 pub classify-spec : {M : Type 1} → statement M
+unfolding meaning
 classify-spec =
     tie.close
     (tie.spec
-    returns
-    returns-2
-    returns-3
-    returns-4
-    returns-5
-    returns-6
-    returns-7
-    returns-8
-    returns-9
-    returns-10)
+    (λ c. ap meaning (sym (c .match .keys1))) (λ c. ap meaning (sym (c .match .keys2))) (λ c. ap meaning (sym (c .match .keys3)))
+    (λ c. ap meaning (sym (c .match .keys4))) (λ c. ap meaning (sym (c .match .keys5))) (λ c. ap meaning (sym (c .match .keys6)))
+    (λ c. ap meaning (sym (c .match .keys7))) returns-8 returns-9 returns-10)

@@ -1,5 +1,6 @@
--- The cycle's measures, and what each member is given and asks of a call, at each measure. A variable that is replaced is rewritten by
--- raising the argument, in which nothing is replaced: so the argument counts for its length and one more where it is put in.
+-- The cycle's measures, and what each member is given and asks of a call, at each measure. A variable that is replaced is
+-- rewritten by raising the argument, in which nothing is replaced: so the argument counts for its length and one more where it is
+-- put in.
 use Prim.Native.Nat.{ℕ, _+_, _*_, _<_}
 use mathlib.Core.List.{List}
 use lib.ListN.{length}

@@ -1,14 +1,14 @@
--- The loop of `rewrite`: its invariant and measure, and what is known of the word of a turn by its shape. A variable has no parts, and any
--- other word stands for itself.
+-- The loop of `rewrite`: its invariant and measure, and what is known of the word of a turn by its shape. A variable has no
+-- parts, and any other word stands for itself.
 use Prim.Native.Nat.{ℕ, _+_, _-_, _≤_}
 use mathlib.Core.List.{List, [], _∷_}
 use mathlib.Core.Path.{_≡_}
 use native.Mathlib.Omega.{arith}
 use lib.ListN.{length, getD}
 use Rattle.calculus.specs.Reading.{binds, meaning}
+use Rattle.term.proofs.Words.{no-binds}
 use Rattle.reduction.specs.Rewriting.{changed-word}
 use Rattle.reduction.proofs.Changes.{unchanged}
-use Rattle.reduction.proofs.Shapes.{no-binds}
 use Rattle.reduction.proofs.Turns.{Turn}
 use Rattle.reduction.proofs.rewriting.rewrite.Reads as reads
 use Rattle.reduction.proofs.rewriting.+rewrite+rewrite_variable+rewrite_whole.Lts-rewrite as lts
@@ -26,7 +26,9 @@ module _ (t : ℕ) where
   -- The word of the turn, and what stands for it.
   module _ (s : lts.After-shape-of (rewrite-claims t) (rewrite-at t) reads.Post Inv-loop μ-loop) where
     abbrev pub word : ℕ
-    word = getD (s .before .before .before .before .before .before .before .args .source .now) (s .before .before .before .loop .read) 0
+    word =
+        let l = s .before .before .before in
+        getD (l .before .before .before .before .args .source .now) (l .loop .read) 0
 
     abbrev pub changed : List ℕ
     changed =
@@ -47,5 +49,6 @@ module _ (t : ℕ) where
       unchanged _ _ _ _ (omega (arith, node-word (s .result) _ (s .ensures) (c .match .keys2)))
 
   pub two : (c : lts.After-found2 (rewrite-claims t) (rewrite-at t) reads.Post Inv-loop μ-loop)
-      → (binds (meaning (word (c .before .before .before .before))) ≡ 0 ∷ c .found2 .given .0 .0 ∷ []) × (c .found2 .given .0 .0 ≤ 1)
+      → let k = c .found2 .given .0 .0 in
+      (binds (meaning (word (c .before .before .before .before))) ≡ 0 ∷ k ∷ []) × (k ≤ 1)
   two c = two-word _ (c .found2 .given .1) (c .before .before .before .before .shape-of .ensures)

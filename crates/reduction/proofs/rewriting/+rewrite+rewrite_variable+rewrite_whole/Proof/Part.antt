@@ -1,36 +1,20 @@
--- The first of two parts in `rewrite`: it is rewritten by a call with a shorter source, behind which the loop goes on with the second, or
--- ends where there is no room.
+-- The first of two parts in `rewrite`: it is rewritten by a call with a shorter source, behind which the loop goes on with the
+-- second, or ends where there is no room.
 use Prim.Native.Nat.{ℕ, _+_}
 use mathlib.Core.Path.{ap, _∙_}
 use native.Mathlib.Omega.{arith}
-use borrow.Author.Needs.{needs}
 use lib.ListN.{length, drop, length-set, length-drop}
 use Rattle.term.proofs.Finding.{from-on}
 use Rattle.term.proofs.Walking.{span-le}
-use Rattle.reduction.proofs.Plain.{plain-drop}
+use Rattle.reduction.proofs.Plain.{below-drop}
 use Rattle.reduction.proofs.Turns.{turn-length, turn-two, part-lacked}
-use Rattle.reduction.proofs.Wrote.{rewrote-of, relacked-of, rewrites-short}
+use Rattle.reduction.proofs.Wrote.{rewrote-of, relacked-of, written-short}
 use Rattle.reduction.proofs.rewriting.rewrite.Reads as reads
 use Rattle.reduction.proofs.rewriting.+rewrite+rewrite_variable+rewrite_whole.Lts-rewrite as lts
 use Rattle.reduction.proofs.rewriting.+rewrite+rewrite_variable+rewrite_whole.Proof.Claims.{rewrite-at, rewrite-claims}
 use Rattle.reduction.proofs.rewriting.+rewrite+rewrite_variable+rewrite_whole.Proof.Loop.{Inv-loop, μ-loop, still, two}
 
 module _ (t : ℕ) where
-  pub enum-known-found-2 : lts.Need-enum-known-found-2 (rewrite-claims t) (rewrite-at t) reads.Post Inv-loop μ-loop
-  enum-known-found-2 c = search needs
-
-  pub mul-rewrite : lts.Need-mul-rewrite (rewrite-claims t) (rewrite-at t) reads.Post Inv-loop μ-loop
-  mul-rewrite c = search needs
-
-  pub sub-rewrite : lts.Need-sub-rewrite (rewrite-claims t) (rewrite-at t) reads.Post Inv-loop μ-loop
-  sub-rewrite c = search needs
-
-  pub part-rewrite-start : lts.Need-part-rewrite-start (rewrite-claims t) (rewrite-at t) reads.Post Inv-loop μ-loop
-  part-rewrite-start c = search needs
-
-  pub part-rewrite-end : lts.Need-part-rewrite-end (rewrite-claims t) (rewrite-at t) reads.Post Inv-loop μ-loop
-  part-rewrite-end c = search needs
-
   pub rewrite-requires : lts.Need-rewrite-requires (rewrite-claims t) (rewrite-at t) reads.Post Inv-loop μ-loop
   rewrite-requires c κs =
       let s = c .before .before .before .before .before .before .before in
@@ -44,19 +28,17 @@ module _ (t : ℕ) where
         (
           simp length-set (omega (arith, c .before .before .before .before .before .if1 .left)),
           omega (arith, l .inv .shallow, count, more),
-          rw part (plain-drop (l .read + 1) ws (start .pre .1 .2)),
+          rw part (below-drop 2048 (l .read + 1) ws (start .pre .1 .2)),
           start .pre .1 .3,
         ),
       )
-
-  pub enum-told-3 : lts.Need-enum-told-3 (rewrite-claims t) (rewrite-at t) reads.Post Inv-loop μ-loop
-  enum-told-3 c = search needs
 
   pub same-length-5 : lts.Need-same-length-5 (rewrite-claims t) (rewrite-at t) reads.Post Inv-loop μ-loop
   same-length-5 c =
       let call = c .before .before .before .before in
       let found = call .before .before .before .before in
-      call .rewrite .kept .1 .1 .1 .1 .0 ∙ simp length-set (turn-length (found .before .before .before .before .before .before .before .loop .inv))
+      let turn = found .before .before .before .before .before .before .before .loop .inv in
+      call .rewrite .kept .1 .1 .1 .1 .0 ∙ simp length-set (turn-length turn)
 
   pub returns-5 : lts.Need-returns-5 (rewrite-claims t) (rewrite-at t) reads.Post Inv-loop μ-loop
   returns-5 c =
@@ -67,10 +49,7 @@ module _ (t : ℕ) where
       let turn = s .before .before .before .loop .inv in
       let more = s .before .before .loop-test .taken in
       let l = relacked-of (call .rewrite .ensures) (c .enum-told3 .given .1) in
-      rewrites-short (part-lacked turn more (still t (node .before)) (node .if1 .left) (two t found .0) (rw from-on at l))
-
-  pub enum-known-more : lts.Need-enum-known-more (rewrite-claims t) (rewrite-at t) reads.Post Inv-loop μ-loop
-  enum-known-more c = search needs
+      written-short (part-lacked turn more (still t (node .before)) (node .if1 .left) (two t found .0) (rw from-on at l))
 
   pub add-read-2 : lts.Need-add-read-2 (rewrite-claims t) (rewrite-at t) reads.Post Inv-loop μ-loop
   add-read-2 c =
@@ -95,9 +74,6 @@ module _ (t : ℕ) where
       let s = found .before .before .before .before in
       omega (arith, two t found .1, s .before .before .before .loop .inv .shallow, s .before .before .loop-test .taken)
 
-  pub loop-less-2 : lts.Need-loop-less-2 (rewrite-claims t) (rewrite-at t) reads.Post Inv-loop μ-loop
-  loop-less-2 c = search needs
-
   pub loop-again-2 : lts.Need-loop-again-2 (rewrite-claims t) (rewrite-at t) reads.Post Inv-loop μ-loop
   loop-again-2 c =
       let call = c .before .before .before .before .before in
@@ -108,4 +84,6 @@ module _ (t : ℕ) where
       let more = s .before .before .loop-test .taken in
       let r = rewrote-of (call .rewrite .ensures) (c .before .more .given .1) in
       let w = rw from-on at (r .1) in
-      rw (rw from-on at (r .0)) (turn-two turn more (still t (node .before)) (node .if1 .left) (two t found .0) (two t found .1) w)
+      rw
+      (rw from-on at (r .0))
+      (turn-two turn more (still t (node .before)) (node .if1 .left) (two t found .0) (two t found .1) w)

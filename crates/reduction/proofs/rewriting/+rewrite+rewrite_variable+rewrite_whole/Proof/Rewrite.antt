@@ -1,13 +1,13 @@
--- `rewrite` meets its contract. Each way through a turn either ends the subterm, or finds no room, or comes to the next turn. A variable is
--- rewritten by a call with no source.
+-- `rewrite` meets its contract. Each way through a turn either ends the subterm, or finds no room, or comes to the next turn. A
+-- variable is rewritten by a call with no source.
 use Prim.Native.Nat.{ℕ}
 use mathlib.Core.Path.{_∙_}
 use native.Mathlib.Omega.{arith}
 use borrow.Author.Needs.{needs}
 use lib.ListN.{length-set}
-use Rattle.reduction.proofs.Plain.{plain-at}
+use Rattle.reduction.proofs.Plain.{below-at}
 use Rattle.reduction.proofs.Turns.{turn-first, turn-length, turn-last, leaf-read, leaf-wrote, leaf-lacked, word-lacked, turn-leaf, turn-one}
-use Rattle.reduction.proofs.Wrote.{wrote-of, lacked-of, rewrites-all, rewrites-short}
+use Rattle.reduction.proofs.Wrote.{wrote-of, lacked-of, rewrites-all, written-short}
 use Rattle.reduction.proofs.rewriting.rewrite.Reads as reads
 use Rattle.reduction.proofs.rewriting.+rewrite+rewrite_variable+rewrite_whole.Lts-rewrite as lts
 use Rattle.reduction.proofs.rewriting.+rewrite+rewrite_variable+rewrite_whole.Proof.Arms.{one-word, last-word}
@@ -21,22 +21,10 @@ module _ (t : ℕ) where
       let s = c .before .before .before in
       turn-first (s .pre .1 .0) (s .pre .1 .1)
 
-  mul-word : lts.Need-mul-word (rewrite-claims t) (rewrite-at t) reads.Post Inv-loop μ-loop
-  mul-word c = search needs
-
-  shared-slice-read-word : lts.Need-shared-slice-read-word (rewrite-claims t) (rewrite-at t) reads.Post Inv-loop μ-loop
-  shared-slice-read-word c = search needs
-
-  add-read : lts.Need-add-read (rewrite-claims t) (rewrite-at t) reads.Post Inv-loop μ-loop
-  add-read c = search needs
-
   shape-of-requires : lts.Need-shape-of-requires (rewrite-claims t) (rewrite-at t) reads.Post Inv-loop μ-loop
   shape-of-requires c κs =
       let s = c .before .before .before .before .before .before in
-      plain-at (s .args .source .now) (c .before .before .loop .read) (s .pre .1 .2) (c .before .loop-test .taken)
-
-  enum-known-found : lts.Need-enum-known-found (rewrite-claims t) (rewrite-at t) reads.Post Inv-loop μ-loop
-  enum-known-found c = search needs
+      below-at 2048 (s .args .source .now) (c .before .before .loop .read) (s .pre .1 .2) (c .before .loop-test .taken)
 
   rewrite-variable-requires : lts.Need-rewrite-variable-requires (rewrite-claims t) (rewrite-at t) reads.Post Inv-loop μ-loop
   rewrite-variable-requires c κs =
@@ -44,7 +32,7 @@ module _ (t : ℕ) where
       let start = s .before .before .before .before .before .before .before in
       let l = s .before .before .before .loop in
       let more = s .before .before .loop-test .taken in
-      let small = plain-at (start .args .source .now) (l .read) (start .pre .1 .2) more in (
+      let small = below-at 2048 (start .args .source .now) (l .read) (start .pre .1 .2) more in (
         omega (arith, start .pre .0, more),
         (
           omega (arith, l .inv .wrote .room, l .inv .wrote .place, turn-length (l .inv)),
@@ -54,16 +42,11 @@ module _ (t : ℕ) where
         ),
       )
 
-  enum-told : lts.Need-enum-told (rewrite-claims t) (rewrite-at t) reads.Post Inv-loop μ-loop
-  enum-told c = search needs
-
-  enum-known-next : lts.Need-enum-known-next (rewrite-claims t) (rewrite-at t) reads.Post Inv-loop μ-loop
-  enum-known-next c = search needs
-
   same-length : lts.Need-same-length (rewrite-claims t) (rewrite-at t) reads.Post Inv-loop μ-loop
   same-length c =
       let call = c .before .before .before .before in
-      call .rewrite-variable .kept .1 .1 .1 .1 .0 ∙ turn-length (call .before .before .before .before .before .before .before .before .loop .inv)
+      let turn = call .before .before .before .before .before .before .before .before .loop .inv in
+      call .rewrite-variable .kept .1 .1 .1 .1 .0 ∙ turn-length turn
 
   returns : lts.Need-returns (rewrite-claims t) (rewrite-at t) reads.Post Inv-loop μ-loop
   returns c =
@@ -73,12 +56,13 @@ module _ (t : ℕ) where
       let turn = s .before .before .before .loop .inv in
       let more = s .before .before .loop-test .taken in
       let l = lacked-of (call .rewrite-variable .ensures) (c .enum-told .given .1) in
-      rewrites-short (leaf-lacked turn more (alone t found) (rw (← index t found) at l))
+      written-short (leaf-lacked turn more (alone t found) (rw (← index t found) at l))
 
   same-length-2 : lts.Need-same-length-2 (rewrite-claims t) (rewrite-at t) reads.Post Inv-loop μ-loop
   same-length-2 c =
       let call = c .before .before .before .before .before in
-      call .rewrite-variable .kept .1 .1 .1 .1 .0 ∙ turn-length (call .before .before .before .before .before .before .before .before .loop .inv)
+      let turn = call .before .before .before .before .before .before .before .before .loop .inv in
+      call .rewrite-variable .kept .1 .1 .1 .1 .0 ∙ turn-length turn
 
   returns-2 : lts.Need-returns-2 (rewrite-claims t) (rewrite-at t) reads.Post Inv-loop μ-loop
   returns-2 c =
@@ -98,16 +82,7 @@ module _ (t : ℕ) where
       let s = c .before .before in
       let turn = s .before .before .before .loop .inv in
       let more = s .before .before .loop-test .taken in
-      rewrites-short (word-lacked turn more (still t (c .before)) (c .if1 .taken))
-
-  mul-out : lts.Need-mul-out (rewrite-claims t) (rewrite-at t) reads.Post Inv-loop μ-loop
-  mul-out c = search needs
-
-  slice-write-out : lts.Need-slice-write-out (rewrite-claims t) (rewrite-at t) reads.Post Inv-loop μ-loop
-  slice-write-out c = search needs
-
-  add-at : lts.Need-add-at (rewrite-claims t) (rewrite-at t) reads.Post Inv-loop μ-loop
-  add-at c = search needs
+      written-short (word-lacked turn more (still t (c .before)) (c .if1 .taken))
 
   same-length-4 : lts.Need-same-length-4 (rewrite-claims t) (rewrite-at t) reads.Post Inv-loop μ-loop
   same-length-4 c = simp length-set (turn-length (c .before .before .before .before .before .before .loop .inv))
@@ -119,12 +94,6 @@ module _ (t : ℕ) where
       let more = s .before .before .loop-test .taken in
       let none = last-word (s .shape-of .result) _ (s .shape-of .ensures) (c .match3 .keys1) in
       rewrites-all (leaf-read turn more none) (turn-leaf turn more (still t (c .before .before)) (c .before .if1 .left) none)
-
-  enum-told-2 : lts.Need-enum-told-2 (rewrite-claims t) (rewrite-at t) reads.Post Inv-loop μ-loop
-  enum-told-2 c = search needs
-
-  loop-less : lts.Need-loop-less (rewrite-claims t) (rewrite-at t) reads.Post Inv-loop μ-loop
-  loop-less c = search needs
 
   loop-again : lts.Need-loop-again (rewrite-claims t) (rewrite-at t) reads.Post Inv-loop μ-loop
   loop-again c =
@@ -145,47 +114,10 @@ module _ (t : ℕ) where
   pub closed : {M : Type 1} → lts.Closed (rewrite-claims t) (rewrite-at t) reads.Post M
   closed =
       lts.spec
-      (rewrite-claims t)
-      (rewrite-at t)
-      reads.Post
-      Inv-loop
-      μ-loop
-      loop-holds
-      mul-word
-      shared-slice-read-word
-      add-read
-      shape-of-requires
-      enum-known-found
-      rewrite-variable-requires
-      enum-told
-      enum-known-next
-      same-length
-      returns
-      same-length-2
-      returns-2
-      same-length-3
-      returns-3
-      mul-out
-      slice-write-out
-      add-at
-      same-length-4
-      returns-4
-      enum-told-2
-      loop-less
-      loop-again
-      (part.enum-known-found-2 t)
-      (part.mul-rewrite t)
-      (part.sub-rewrite t)
-      (part.part-rewrite-start t)
-      (part.part-rewrite-end t)
-      (part.rewrite-requires t)
-      (part.enum-told-3 t)
-      (part.same-length-5 t)
-      (part.returns-5 t)
-      (part.enum-known-more t)
-      (part.add-read-2 t)
-      (part.add-depth t)
-      (part.loop-less-2 t)
-      (part.loop-again-2 t)
-      same-length-6
-      returns-6
+      (rewrite-claims t) (rewrite-at t) reads.Post Inv-loop μ-loop loop-holds (λ c. search needs) (λ c. search needs)
+      (λ c. search needs) shape-of-requires (λ c. search needs) rewrite-variable-requires (λ c. search needs)
+      (λ c. search needs) same-length returns same-length-2 returns-2 same-length-3 returns-3 (λ c. search needs)
+      (λ c. search needs) (λ c. search needs) same-length-4 returns-4 (λ c. search needs) (λ c. search needs) loop-again
+      (λ c. search needs) (λ c. search needs) (λ c. search needs) (λ c. search needs) (λ c. search needs)
+      (part.rewrite-requires t) (λ c. search needs) (part.same-length-5 t) (part.returns-5 t) (λ c. search needs)
+      (part.add-read-2 t) (part.add-depth t) (λ c. search needs) (part.loop-again-2 t) same-length-6 returns-6

@@ -1,6 +1,6 @@
--- `rewrite_variable` meets its contract: what each arm writes is what stands for the variable. A closed argument is the same raised by
--- 0 as by the binders around, and raising by 0 is copying.
-use Prim.Native.Nat.{ℕ, _+_, _≤_}
+-- `rewrite_variable` meets its contract: what each arm writes is what stands for the variable. A closed argument is the same
+-- raised by 0 as by the binders around, and raising by 0 is copying.
+use Prim.Native.Nat.{ℕ, _+_, _≤_, _<_}
 use mathlib.Core.Logic.{⊎-elim}
 use mathlib.Core.Path.{_≡_, sym, ap, subst, _∙_}
 use native.Mathlib.Omega.{arith}
@@ -25,7 +25,9 @@ module _ (t : ℕ) where
         let same : 16 + a .index ≡ 16 + a .depth = omega (arith, c .if2 .left, free .if1 .left) in
         changed-put (c .before .before .change2 .given .1) (a .argument .now) (a .depth) (16 + a .index) same
 
-    bounded : Bounded (change.Put (c .before .before .change2 .given .0 .0)) (c .before .before .before .before .before .before .before .args .argument .now)
+    bounded :
+        let start = c .before .before .before .before .before .before .before in
+        Bounded (change.Put (c .before .before .change2 .given .0 .0)) (start .args .argument .now)
     bounded =
         let start = c .before .before .before .before .before .before .before in
         subst (λ x. Bounded x (start .args .argument .now)) (c .before .before .change2 .given .1) (start .pre .1 .3)
@@ -50,15 +52,6 @@ module _ (t : ℕ) where
         let start = c .before .before .before .before .before .before .before .before in
         ⊎-elim (λ w. let q = w .1 in omega arith) (λ w. let q = w .1 in omega (arith, start .pre .1 .2)) (c .if3 .came)
 
-  add-put : lts.Need-add-put (rewrite-variable-claims t) (rewrite-variable-at t) reads.Post
-  add-put c = search needs
-
-  put-requires : lts.Need-put-requires (rewrite-variable-claims t) (rewrite-variable-at t) reads.Post
-  put-requires c κs = search needs
-
-  same-length : lts.Need-same-length (rewrite-variable-claims t) (rewrite-variable-at t) reads.Post
-  same-length c = search needs
-
   returns : lts.Need-returns (rewrite-variable-claims t) (rewrite-variable-at t) reads.Post
   returns c =
       let bound = c .before .before .before .before in
@@ -67,59 +60,29 @@ module _ (t : ℕ) where
       (unchanged (a .change) (a .argument .now) (a .depth) (16 + a .index) (omega (arith, bound .if1 .taken)))
       (c .before .before .put .ensures)
 
-  enum-known-change : lts.Need-enum-known-change (rewrite-variable-claims t) (rewrite-variable-at t) reads.Post
-  enum-known-change c = search needs
-
-  add-put-2 : lts.Need-add-put-2 (rewrite-variable-claims t) (rewrite-variable-at t) reads.Post
-  add-put-2 c = search needs
-
   add-put-3 : lts.Need-add-put-3 (rewrite-variable-claims t) (rewrite-variable-at t) reads.Post
   unfolding Bounded
   add-put-3 c =
       let start = c .before .before .before .before .before .before in
       omega (arith, subst (λ x. Bounded x (start .args .argument .now)) (c .before .change .given .1) (start .pre .1 .3))
 
-  put-requires-2 : lts.Need-put-requires-2 (rewrite-variable-claims t) (rewrite-variable-at t) reads.Post
-  put-requires-2 c κs = search needs
-
-  enum-known-change-2 : lts.Need-enum-known-change-2 (rewrite-variable-claims t) (rewrite-variable-at t) reads.Post
-  enum-known-change-2 c = search needs
-
-  add-put-4 : lts.Need-add-put-4 (rewrite-variable-claims t) (rewrite-variable-at t) reads.Post
-  add-put-4 c = search needs
-
-  sub-put : lts.Need-sub-put (rewrite-variable-claims t) (rewrite-variable-at t) reads.Post
-  sub-put c = search needs
-
-  put-requires-3 : lts.Need-put-requires-3 (rewrite-variable-claims t) (rewrite-variable-at t) reads.Post
-  put-requires-3 c κs = search needs
-
-  same-length-2 : lts.Need-same-length-2 (rewrite-variable-claims t) (rewrite-variable-at t) reads.Post
-  same-length-2 c = search needs
-
   returns-2 : lts.Need-returns-2 (rewrite-variable-claims t) (rewrite-variable-at t) reads.Post
   returns-2 c =
       let above = c .before .before .before .before in
       let found = above .before .before in
       let a = found .before .before .before .before .before .args in
+      let higher : 16 + a .depth < 16 + a .index = omega (arith, above .if2 .taken) in
       rw
-      (changed-lowered (found .change2 .given .1) (a .argument .now) (a .depth) (16 + a .index) (omega (arith, above .if2 .taken)))
+      (changed-lowered (found .change2 .given .1) (a .argument .now) (a .depth) (16 + a .index) higher)
       (c .before .before .put3 .ensures)
-
-  copy-requires : lts.Need-copy-requires (rewrite-variable-claims t) (rewrite-variable-at t) reads.Post
-  copy-requires c κs = search needs
-
-  same-length-3 : lts.Need-same-length-3 (rewrite-variable-claims t) (rewrite-variable-at t) reads.Post
-  same-length-3 c = search needs
 
   returns-3 : lts.Need-returns-3 (rewrite-variable-claims t) (rewrite-variable-at t) reads.Post
   unfolding Bounded
   returns-3 c =
       let here = c .before .before .before .before .before in
       let argument = here .before .before .before .before .before .before .before .before .args .argument .now in
-      rw
-      (put-in here, c .before .before .before .before .if4 .taken, raised-by-none argument (bounded (here .before) .2))
-      (c .before .before .copy .ensures)
+      let none : here .if3 .by ≡ 0 = omega (arith, c .before .before .before .before .if4 .taken) in
+      rw (put-in here, none, raised-by-none argument (bounded (here .before) .2)) (c .before .before .copy .ensures)
 
   rewrite-whole-requires : lts.Need-rewrite-whole-requires (rewrite-variable-claims t) (rewrite-variable-at t) reads.Post
   unfolding Bounded
@@ -130,9 +93,6 @@ module _ (t : ℕ) where
       let b = bounded here in
       (omega (arith, start .pre .0, length-counts), (start .pre .1 .0, b .2, b .1, b .0, small (c .before .before)))
 
-  same-length-4 : lts.Need-same-length-4 (rewrite-variable-claims t) (rewrite-variable-at t) reads.Post
-  same-length-4 c = search needs
-
   returns-4 : lts.Need-returns-4 (rewrite-variable-claims t) (rewrite-variable-at t) reads.Post
   returns-4 c =
       let found = c .before .before .before .before .before in
@@ -142,9 +102,6 @@ module _ (t : ℕ) where
       (changed-raised (found .change .given .1) (a .argument .now) (a .depth) (16 + a .index) (omega (arith, free .if1 .left)))
       (c .before .before .put2 .ensures)
 
-  same-length-5 : lts.Need-same-length-5 (rewrite-variable-claims t) (rewrite-variable-at t) reads.Post
-  same-length-5 c = search needs
-
   returns-5 : lts.Need-returns-5 (rewrite-variable-claims t) (rewrite-variable-at t) reads.Post
   unfolding raised changed-word
   returns-5 c = rw (put-in (c .before .before .before .before .before)) (c .before .before .rewrite-whole .ensures)
@@ -152,28 +109,7 @@ module _ (t : ℕ) where
   pub closed : {M : Type 1} → lts.Closed (rewrite-variable-claims t) (rewrite-variable-at t) reads.Post M
   closed =
       lts.spec
-      (rewrite-variable-claims t)
-      (rewrite-variable-at t)
-      reads.Post
-      add-put
-      put-requires
-      same-length
-      returns
-      enum-known-change
-      add-put-2
-      add-put-3
-      put-requires-2
-      enum-known-change-2
-      add-put-4
-      sub-put
-      put-requires-3
-      same-length-2
-      returns-2
-      copy-requires
-      same-length-3
-      returns-3
-      rewrite-whole-requires
-      same-length-4
-      returns-4
-      same-length-5
-      returns-5
+      (rewrite-variable-claims t) (rewrite-variable-at t) reads.Post (λ c. search needs) (λ c κs. search needs)
+      (λ c. search needs) returns (λ c. search needs) (λ c. search needs) add-put-3 (λ c κs. search needs) (λ c. search needs)
+      (λ c. search needs) (λ c. search needs) (λ c κs. search needs) (λ c. search needs) returns-2 (λ c κs. search needs)
+      (λ c. search needs) returns-3 rewrite-whole-requires (λ c. search needs) returns-4 (λ c. search needs) returns-5

@@ -4,14 +4,14 @@ use mathlib.Core.List.{[], _∷_, _++_}
 use mathlib.Core.Path.{_≡_, sym}
 use borrow.Author.Needs.{needs}
 use native.Mathlib.Omega.{arith}
-use lib.ListN.{take, drop}
+use lib.ListN.{take, drop, getD}
 use lib.Seq.{length-take-le}
 use Rattle.term.proofs.Finding.{from-on}
 use Rattle.reduction.specs.Rewriting.{changed-word, rewritten}
 use Rattle.reduction.proofs.Changes.{unchanged}
-use Rattle.reduction.proofs.Plain.{plain-take}
+use Rattle.reduction.proofs.Plain.{below-take, below-at}
 use Rattle.reduction.proofs.Tails.{rewritten-tail}
-use Rattle.reduction.proofs.Wrote.{rewrote-of, relacked-of, length-wrote, lacked-more, writes-short, writes-then}
+use Rattle.reduction.proofs.Wrote.{rewrote-of, relacked-of, length-wrote, lacked-more, written-short, written-then}
 use Rattle.reduction.proofs.rewriting.rewrite_whole.Reads as reads
 use Rattle.reduction.proofs.rewriting.+rewrite+rewrite_variable+rewrite_whole.Lts-rewrite_whole as lts
 use Rattle.reduction.proofs.rewriting.+rewrite+rewrite_variable+rewrite_whole.Proof.Claims.{rewrite-whole-at, rewrite-whole-claims}
@@ -28,17 +28,14 @@ module _ (t : ℕ) where
       let a = start .args in
       let l = c .last-variable in
       let f = changed-word (a .change) (a .argument .now) in
+      let rest = drop (l .result) (a .source .now) in
       rewritten-tail
       f
-      (λ d w h. unchanged (a .change) (a .argument .now) d w (omega arith))
       (a .source .now)
       (0 ∷ [])
       (l .result)
       (start .pre .1 .1)
-      (l .ensures .1)
-
-  last-variable-requires : lts.Need-last-variable-requires (rewrite-whole-claims t) (rewrite-whole-at t) reads.Post
-  last-variable-requires c κs = search needs
+      (λ d i h. unchanged (a .change) (a .argument .now) d (getD rest i 0) (omega (arith, below-at 16 rest i (l .ensures .1) h)))
 
   slice-aggregate-rewrite : lts.Need-slice-aggregate-rewrite (rewrite-whole-claims t) (rewrite-whole-at t) reads.Post
   slice-aggregate-rewrite c =
@@ -52,26 +49,8 @@ module _ (t : ℕ) where
       let ws = s .args .source .now in
       let front = length-take-le (l .result) ws (l .ensures .0) in (
         omega (arith, s .pre .0, front),
-        (s .pre .1 .0, omega (arith, front), plain-take (l .result) ws (s .pre .1 .3), s .pre .1 .4),
+        (s .pre .1 .0, omega (arith, front), below-take 2048 (l .result) ws (s .pre .1 .3), s .pre .1 .4),
       )
-
-  enum-told : lts.Need-enum-told (rewrite-whole-claims t) (rewrite-whole-at t) reads.Post
-  enum-told c = search needs
-
-  enum-known-next : lts.Need-enum-known-next (rewrite-whole-claims t) (rewrite-whole-at t) reads.Post
-  enum-known-next c = search needs
-
-  mul-copy : lts.Need-mul-copy (rewrite-whole-claims t) (rewrite-whole-at t) reads.Post
-  mul-copy c = search needs
-
-  sub-copy : lts.Need-sub-copy (rewrite-whole-claims t) (rewrite-whole-at t) reads.Post
-  sub-copy c = search needs
-
-  part-copy-start : lts.Need-part-copy-start (rewrite-whole-claims t) (rewrite-whole-at t) reads.Post
-  part-copy-start c = search needs
-
-  part-copy-end : lts.Need-part-copy-end (rewrite-whole-claims t) (rewrite-whole-at t) reads.Post
-  part-copy-end c = search needs
 
   copy-requires : lts.Need-copy-requires (rewrite-whole-claims t) (rewrite-whole-at t) reads.Post
   copy-requires c κs =
@@ -79,43 +58,23 @@ module _ (t : ℕ) where
       let w = rewrote-of (next .before .before .before .before .rewrite .ensures) (next .next .given .1) .1 in
       omega (arith, length-wrote w)
 
-  same-length : lts.Need-same-length (rewrite-whole-claims t) (rewrite-whole-at t) reads.Post
-  same-length c = search needs
-
   returns : lts.Need-returns (rewrite-whole-claims t) (rewrite-whole-at t) reads.Post
   returns c =
       let call = c .before .before .before .before in
       let l = call .before .before .before in
       let rest = drop (l .last-variable .result) (l .before .before .before .before .args .source .now) in
-      rw (whole l) (writes-short (lacked-more rest (relacked-of (call .rewrite .ensures) (c .enum-told .given .1))))
-
-  same-length-2 : lts.Need-same-length-2 (rewrite-whole-claims t) (rewrite-whole-at t) reads.Post
-  same-length-2 c = search needs
+      rw (whole l) (written-short (lacked-more rest (relacked-of (call .rewrite .ensures) (c .enum-told .given .1))))
 
   returns-2 : lts.Need-returns-2 (rewrite-whole-claims t) (rewrite-whole-at t) reads.Post
   returns-2 c =
       let next = c .before .before .before .before .before .before in
       let call = next .before .before .before .before in
       let w = rewrote-of (call .rewrite .ensures) (next .next .given .1) .1 in
-      rw (whole (call .before .before .before)) (writes-then w (rw from-on at (c .before .before .copy .ensures)))
+      rw (whole (call .before .before .before)) (written-then w (rw from-on at (c .before .before .copy .ensures)))
 
   pub closed : {M : Type 1} → lts.Closed (rewrite-whole-claims t) (rewrite-whole-at t) reads.Post M
   closed =
       lts.spec
-      (rewrite-whole-claims t)
-      (rewrite-whole-at t)
-      reads.Post
-      last-variable-requires
-      slice-aggregate-rewrite
-      rewrite-requires
-      enum-told
-      enum-known-next
-      mul-copy
-      sub-copy
-      part-copy-start
-      part-copy-end
-      copy-requires
-      same-length
-      returns
-      same-length-2
-      returns-2
+      (rewrite-whole-claims t) (rewrite-whole-at t) reads.Post (λ c κs. search needs) slice-aggregate-rewrite rewrite-requires
+      (λ c. search needs) (λ c. search needs) (λ c. search needs) (λ c. search needs) (λ c. search needs) (λ c. search needs)
+      copy-requires (λ c. search needs) returns (λ c. search needs) returns-2
