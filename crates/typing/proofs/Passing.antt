@@ -1,5 +1,6 @@
--- What the answer for a part says of the whole. A part that is refused is the answer of the whole; a part that is typed has a type,
--- which lies where the part was asked for; and the whole refuses where the code does, by the same reason at the same place.
+-- What the answer for a part says of the whole. Inference of a node goes on from a part that is typed and ends at one that is
+-- refused: so a part's refusal is the answer of the whole, and a part that is typed has a type, which lies where the part was
+-- asked for. The whole refuses where the code does, by the same reason at the same place.
 use Prim.Native.Nat.{ℕ}
 use mathlib.Core.Bool.{Bool, true, false}
 use mathlib.Core.List.{List}
