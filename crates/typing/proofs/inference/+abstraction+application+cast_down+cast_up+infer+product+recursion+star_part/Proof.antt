@@ -1,4 +1,5 @@
--- The cycle of calls that infers a type meets its contracts: each member's needs are answered in a module of its own.
+-- The cycle of calls that infers a type meets its contracts: every call in it lowers the caller's measure, so that a member may
+-- take its callees' contracts for granted. Each member's needs are answered in a module of its own.
 mod Measures
 mod Abstraction
 mod Application

@@ -1,10 +1,19 @@
 -- The measures of the cycle of calls, and what each member is handed for its callees. A node's function is called on the words that
--- `infer` has, and calls `infer` and `star_part` on strictly fewer; `star_part` calls `infer` on the same words. So with three for
--- each word the node's functions have 0 more, `infer` 1 and `star_part` 2.
-use Prim.Native.Nat.{ℕ, _+_, _*_, _<_}
+-- `infer` has, and calls `infer` and `star_part` on strictly fewer, since a part begins behind the node's first word; `star_part`
+-- calls `infer` on the same words. So with three for each word the node's functions have 0 more, `infer` 1 and `star_part` 2.
+use Prim.Native.Nat.{ℕ, _+_, _*_, _≤_, _<_}
+use mathlib.Core.List.{List}
+use mathlib.Core.Path.{_≡_}
+use native.Mathlib.Omega.{arith}
 use lib.ListN.{length}
 use borrow.Fn.Kinds.{In}
 use borrow.Fn.PlainCycle.{Measures, is, falls, and}
+use Rattle.calculus.specs.Term.{Term}
+use Rattle.calculus.specs.Words.{levels}
+use Rattle.calculus.specs.Rules.{Context}
+use Rattle.typing.specs.Inference.{Subject, Roomy}
+use Rattle.typing.proofs.Subjects.{behind, behind-length, subject-some}
+use Rattle.typing.proofs.Rooms.{roomy-part}
 use Rattle.typing.proofs.inference.abstraction.Reads as abstraction
 use Rattle.typing.proofs.inference.abstraction.Kinds as abstraction-kinds
 use Rattle.typing.proofs.inference.+abstraction+application+cast_down+cast_up+infer+product+recursion+star_part.Lts-abstraction as abstraction-lts
@@ -137,3 +146,19 @@ recursion-claims t = (star-part-below t, star-part.Post, narrow-reads.Asked, nar
 
 abbrev pub star-part-claims : ℕ → star-part-lts.Claims
 star-part-claims t = (infer-below t, infer.Post, classify-reads.Asked, classify-reads.Learnt, refused-reads.Asked, refused-reads.Learnt)
+
+-- What a node asks for a part `d` of it that stands behind the first word and `n` others: fewer words, by the measure of `infer` or
+-- of `star_part`, the part as a subject, and its room.
+pub part-asked : {Γ Δ : Context} {e d : Term} {term sub places places′ : List ℕ} {depth depth′ : ℕ} {work work′ : List ℕ} {top top′ limit t : ℕ} (n more : ℕ)
+    → more ≤ 2
+    → 3 * length sub ≡ t
+    → Subject Γ e term sub places depth
+    → Roomy e work top limit
+    → Subject Δ d term (behind (1 + n) sub) places′ depth′
+    → levels d < levels e
+    → length work′ ≡ length work
+    → top′ ≤ top + limit
+    → (3 * length (behind (1 + n) sub) + more < t)
+    × ((Θ : Context) × (a : Term) × Subject Θ a term (behind (1 + n) sub) places′ depth′ × Roomy a work′ top′ limit)
+part-asked {sub} n more few words S R D deep long fits =
+    (omega (arith, behind-length (1 + n) sub, subject-some S), (_, _, D, roomy-part R deep long fits))
