@@ -36,7 +36,7 @@ module _ {Γ : Context} {e a : Term} {term sub places : List ℕ} {depth : ℕ} 
     {work : List ℕ} {top n m₁ : ℕ} {mid places₁ : List ℕ}
     (A : Part (star-typed L Γ (length term - length (behind 1 sub)) a) a places depth work top n m₁ mid places₁) where
   is-star : infer L Γ (length term - length (behind 1 sub)) a ≡ ok star
-  is-star = starred L Γ (length term - length (behind 1 sub)) a (A .found)
+  is-star = starred L Γ (length term - length (behind 1 sub)) a (A .found) .0
 
   pub annotation-found : infer L Γ (suc (length term - length sub)) a ≡ ok star
   annotation-found = rw (← place-first S) is-star

@@ -19,7 +19,7 @@ use Rattle.typing.proofs.Binding.{lam-annotation, lam-body, lam-over, l
 use Rattle.typing.proofs.inference.abstraction.Reads as abstraction
 use Rattle.typing.proofs.inference.+abstraction+application+cast_down+cast_up+infer+product+recursion+star_part.Lts-abstraction as abstraction-lts
 use Rattle.typing.proofs.inference.+abstraction+application+cast_down+cast_up+infer+product+recursion+star_part.Proof.Measures.{abstraction-at, abstraction-claims, part-asked}
-use Rattle.typing.proofs.inference.+abstraction+application+cast_down+cast_up+infer+product+recursion+star_part.Proof.Abstraction.Known.{typed-annotation, reach, copied, skips, both, lengths, room}
+use Rattle.typing.proofs.inference.+abstraction+application+cast_down+cast_up+infer+product+recursion+star_part.Proof.Abstraction.Known.{start-place, annotation-place, typed-annotation, reach, copied, skips, both, lengths, long, room}
 
 star-part-requires : (t : ℕ) → abstraction-lts.Need-star-part-requires (abstraction-claims t) (abstraction-at t) abstraction.Post
 star-part-requires t c κs =
@@ -33,36 +33,34 @@ returns t c Γ a e S =
     passed _ (after-star-part .star-part .ensures Γ a (first S of-lam)) (c .enum-told .given .1) (lam-annotation _ Γ _ _ a e (place-first S))
 
 narrow-requires : (t : ℕ) → abstraction-lts.Need-narrow-requires (abstraction-claims t) (abstraction-at t) abstraction.Post
-narrow-requires t c κs = place-short (c .before .before .before .before .before .before .before .before .before .before .before .before .pre .1 .3)
+narrow-requires t c κs = place-short (start-place t c .pre .1 .3)
 
 element-write-context : (t : ℕ) → abstraction-lts.Need-element-write-context (abstraction-claims t) (abstraction-at t) abstraction.Post
-element-write-context t c = subject-shallow (c .before .before .before .before .before .before .before .before .before .before .before .before .before .pre .1 .3)
+element-write-context t c = subject-shallow (start-place t (c .before) .pre .1 .3)
 
 add-infer-2 : (t : ℕ) → abstraction-lts.Need-add-infer-2 (abstraction-claims t) (abstraction-at t) abstraction.Post
 add-infer-2 t c =
     let joined1 = c .before .before .before .before in
-    let start = joined1 .before .before .before .before .before .before .before .before .before .before .before .before .before .before in
+    let start = start-place t (joined1 .before .before) in
     omega (arith, skips t joined1 .0, room-two (start .pre .1 .4), start .good .1 .1 .1 .1 .0 .0)
 
 infer-requires : (t : ℕ) → abstraction-lts.Need-infer-requires (abstraction-claims t) (abstraction-at t) abstraction.Post
 infer-requires t c κs =
     let joined1 = c .before .before .before .before in
     let after-narrow = joined1 .before in
-    let after-annotation = after-narrow .before .before in
-    let after-star-part = after-annotation .before .before .before .before in
-    let start = after-star-part .before .before .before .before .before .before .before in
+    let after-known-told = after-narrow .before in
+    let start = start-place t after-known-told in
     let P = start .pre .1 in
-    let A = typed-annotation t after-annotation (P .0) (P .1) (P .2) (P .3) in
+    let A = typed-annotation t after-known-told (P .0) (P .1) (P .2) (P .3) in
     let E = below (P .3) _ A (after-narrow .narrow .result) of-lam (after-narrow .narrow .ensures) in
-    part-asked (after-annotation .annotation .given .0 .0) 1 (omega arith) (start .pre .0) (P .3) (P .4) E (two-levels of-lam .1)
-    (after-star-part .star-part .kept .1 .1 .1 .1 .0) (omega (arith, skips t joined1 .0))
+    part-asked (after-known-told .before .annotation .given .0 .0) 1 (omega arith) (start .pre .0) (P .3) (P .4) E (two-levels of-lam .1)
+    (after-known-told .before .before .before .before .before .star-part .kept .1 .1 .1 .1 .0) (omega (arith, skips t joined1 .0))
 
 returns-2 : (t : ℕ) → abstraction-lts.Need-returns-2 (abstraction-claims t) (abstraction-at t) abstraction.Post
 returns-2 t c Γ a e S =
     let after-infer = c .before .before .before .before in
     let after-narrow = after-infer .before .before .before .before .before .before in
-    let after-annotation = after-narrow .before .before in
-    let A = typed-annotation t after-annotation Γ a e S in
+    let A = typed-annotation t (after-narrow .before) Γ a e S in
     passed _
     (after-infer .infer .ensures (a ∷ Γ) e (below S _ A (after-narrow .narrow .result) of-lam (after-narrow .narrow .ensures)))
     (c .enum-told2 .given .1) (lam-body _ Γ _ _ a e (annotation-found S _ A) (second-place S _ A (of-lam {e = e})))
@@ -74,14 +72,14 @@ returns-3 t c Γ a e S =
     turned (lam-over B (omega (arith, B .read, B .long, c .before .if2 .taken))) (c .refused .ensures)
 
 part-copy-end : (t : ℕ) → abstraction-lts.Need-part-copy-end (abstraction-claims t) (abstraction-at t) abstraction.Post
-part-copy-end t c = omega (arith, reach t (c .before .before .before .before .before .before .before .before .before .before .before .before .before))
+part-copy-end t c = omega (arith, reach t (annotation-place t (c .before)))
 
 same-length-4 : (t : ℕ) → abstraction-lts.Need-same-length-4 (abstraction-claims t) (abstraction-at t) abstraction.Post
 same-length-4 t c =
-    let after-infer = c .before .before .before .before .before .before .before .before .before .before .before in
-    let after-star-part = after-infer .before .before .before .before .before .before .before .before .before .before .before .before in
-    let start = after-star-part .before .before .before .before .before .before .before in
-    c .before .before .copy .kept .1 .0 ∙ length-set (after-infer .infer .last .1 .1 .1 .1 .0) (start .args .top) 5 ∙ after-infer .infer .kept .1 .1 .1 .1 .0 ∙ after-star-part .star-part .kept .1 .1 .1 .1 .0
+    let after-known-told2 = c .before .before .before .before .before .before in
+    let start = start-place t (annotation-place t after-known-told2) in
+    c .before .before .copy .kept .1 .0 ∙ length-set (after-known-told2 .before .before .before .before .before .infer .last .1 .1 .1 .1 .0) (start .args .top) 5
+    ∙ long t after-known-told2
 
 returns-4 : (t : ℕ) → abstraction-lts.Need-returns-4 (abstraction-claims t) (abstraction-at t) abstraction.Post
 unfolding size
@@ -92,7 +90,7 @@ returns-4 t c Γ a e S =
     let after-infer = after-body .before .before .before .before in
     let joined1 = after-infer .before .before .before .before .before in
     let after-known-told = joined1 .before .before in
-    let start = after-known-told .before .before .before .before .before .before .before .before .before .before .before .before in
+    let start = start-place t after-known-told in
     let B = both t after-known-told2 Γ a e S in
     let r = room t after-known-told2 in
     let k = skips t joined1 .1 (omega (arith, else2 .if2 .left)) in

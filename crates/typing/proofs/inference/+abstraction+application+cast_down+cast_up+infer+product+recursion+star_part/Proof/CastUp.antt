@@ -22,7 +22,7 @@ use Rattle.typing.proofs.Compared.{longer}
 use Rattle.typing.proofs.inference.cast_up.Reads as cast-up
 use Rattle.typing.proofs.inference.+abstraction+application+cast_down+cast_up+infer+product+recursion+star_part.Lts-cast_up as cast-up-lts
 use Rattle.typing.proofs.inference.+abstraction+application+cast_down+cast_up+infer+product+recursion+star_part.Proof.Measures.{cast-up-at, cast-up-claims, part-asked}
-use Rattle.typing.proofs.inference.+abstraction+application+cast_down+cast_up+infer+product+recursion+star_part.Proof.CastUp.Known.{typed-annotation, reach, copied, both, room, next-state, compared}
+use Rattle.typing.proofs.inference.+abstraction+application+cast_down+cast_up+infer+product+recursion+star_part.Proof.CastUp.Known.{start-place, annotation-place, typed-annotation, reach, copied, both, long, room, next-state, compared}
 
 star-part-requires : (t : ℕ) → cast-up-lts.Need-star-part-requires (cast-up-claims t) (cast-up-at t) cast-up.Post
 star-part-requires t c κs =
@@ -37,29 +37,27 @@ returns t c Γ a e S =
 
 infer-requires : (t : ℕ) → cast-up-lts.Need-infer-requires (cast-up-claims t) (cast-up-at t) cast-up.Post
 infer-requires t c κs =
-    let after-annotation = c .before .before .before .before in
-    let after-star-part = after-annotation .before .before .before .before in
-    let start = after-star-part .before .before .before .before .before .before .before in
+    let after-known-told = c .before .before .before in
+    let start = start-place t after-known-told in
     let P = start .pre .1 in
-    let E = beside (P .3) _ (typed-annotation t after-annotation (P .0) (P .1) (P .2) (P .3)) of-castup in
-    part-asked (after-annotation .annotation .given .0 .0) 1 (omega arith) (start .pre .0) (P .3) (P .4) E (two-levels of-castup .1)
-    (after-star-part .star-part .kept .1 .1 .1 .1 .0) (omega arith)
+    let E = beside (P .3) _ (typed-annotation t after-known-told (P .0) (P .1) (P .2) (P .3)) of-castup in
+    part-asked (after-known-told .before .annotation .given .0 .0) 1 (omega arith) (start .pre .0) (P .3) (P .4) E
+    (two-levels of-castup .1) (after-known-told .before .before .before .before .before .star-part .kept .1 .1 .1 .1 .0) (omega arith)
 
 returns-2 : (t : ℕ) → cast-up-lts.Need-returns-2 (cast-up-claims t) (cast-up-at t) cast-up.Post
 returns-2 t c Γ a e S =
     let after-infer = c .before .before .before .before in
-    let after-annotation = after-infer .before .before .before .before .before in
-    let A = typed-annotation t after-annotation Γ a e S in
+    let A = typed-annotation t (after-infer .before .before .before .before) Γ a e S in
     passed _ (after-infer .infer .ensures Γ e (beside S _ A of-castup)) (c .enum-told2 .given .1)
     (up-body _ Γ _ _ a e (annotation-found S _ A) (second-place S _ A (of-castup {e = e})))
 
 part-step-into-end : (t : ℕ) → cast-up-lts.Need-part-step-into-end (cast-up-claims t) (cast-up-at t) cast-up.Post
-part-step-into-end t c = omega (arith, reach t (c .before .before .before .before .before .before .before .before .before))
+part-step-into-end t c = omega (arith, reach t (annotation-place t c))
 
 step-into-requires : (t : ℕ) → cast-up-lts.Need-step-into-requires (cast-up-claims t) (cast-up-at t) cast-up.Post
 step-into-requires t c κs =
-    let after-known-told = c .before .before .before .before .before .before .before .before .before .before .before in
-    let start = after-known-told .before .before .before .before .before .before .before .before .before .before .before .before in
+    let after-known-told = annotation-place t (c .before .before) in
+    let start = start-place t after-known-told in
     let P = start .pre .1 in
     let F = first (P .3) of-castup in
     let r = room t (c .before .before) in
@@ -69,7 +67,7 @@ returns-3 : (t : ℕ) → cast-up-lts.Need-returns-3 (cast-up-claims t) (cast-up
 returns-3 t c Γ a e S =
     let after-step-into = c .before .before .before .before in
     let after-known-told2 = after-step-into .before .before .before in
-    let after-known-told = after-known-told2 .before .before .before .before .before .before .before .before .before in
+    let after-known-told = annotation-place t after-known-told2 in
     let m = after-step-into .step-into .ensures a (copied t after-known-told Γ a e S) in
     turned (up-rests (both t after-known-told2 Γ a e S) (rests _ _ _ _ _ _ (step a) m (c .before .match3 .keys1))) (c .refused .ensures)
 
@@ -77,7 +75,7 @@ returns-4 : (t : ℕ) → cast-up-lts.Need-returns-4 (cast-up-claims t) (cast-up
 returns-4 t c Γ a e S =
     let after-step-into = c .before .before .before .before .before in
     let after-known-told2 = after-step-into .before .before .before in
-    let after-known-told = after-known-told2 .before .before .before .before .before .before .before .before .before in
+    let after-known-told = annotation-place t after-known-told2 in
     let m = after-step-into .step-into .ensures a (copied t after-known-told Γ a e S) in
     let o = over-limit _ _ _ _ _ (step a) m (c .before .enum-told3 .given .1) in
     turned (up-step-over (both t after-known-told2 Γ a e S) (o .0) (o .1) (o .2)) (c .refused2 .ensures)
@@ -113,7 +111,7 @@ returns-7 t c Γ a e S =
     (c .refused5 .ensures)
 
 part-copy-end : (t : ℕ) → cast-up-lts.Need-part-copy-end (cast-up-claims t) (cast-up-at t) cast-up.Post
-part-copy-end t c = omega (arith, reach t (c .before .before .before .before .before .before .before .before .before .before .before .before .before .before .before .before .before .before .before .before .before .before))
+part-copy-end t c = omega (arith, reach t (annotation-place t (c .before .before .before .before .before .before .before .before .before .before .before .before .before)))
 
 copy-requires : (t : ℕ) → cast-up-lts.Need-copy-requires (cast-up-claims t) (cast-up-at t) cast-up.Post
 copy-requires t c κs =
@@ -123,8 +121,8 @@ copy-requires t c κs =
 add-t19 : (t : ℕ) → cast-up-lts.Need-add-t19 (cast-up-claims t) (cast-up-at t) cast-up.Post
 add-t19 t c =
     let after-known-told2 = c .before .before .before .before .before .before .before .before .before .before .before .before .before .before .before .before .before .before in
-    let after-known-told = after-known-told2 .before .before .before .before .before .before .before .before .before in
-    let start = after-known-told .before .before .before .before .before .before .before .before .before .before .before .before in
+    let after-known-told = annotation-place t after-known-told2 in
+    let start = start-place t after-known-told in
     let P = start .pre .1 in
     let B = both t after-known-told2 (P .0) (P .1) (P .2) (P .3) in
     omega (arith, both-reach (P .3) of-castup B)
@@ -132,9 +130,7 @@ add-t19 t c =
 same-length-8 : (t : ℕ) → cast-up-lts.Need-same-length-8 (cast-up-claims t) (cast-up-at t) cast-up.Post
 same-length-8 t c =
     let after-step-into = c .before .before .before .before .before .before .before .before .before .before .before .before .before .before .before in
-    let after-infer = after-step-into .before .before .before .before .before .before .before .before in
-    let after-star-part = after-infer .before .before .before .before .before .before .before .before .before in
-    c .before .before .copy .kept .1 .0 ∙ after-step-into .step-into .kept .1 .1 .0 ∙ after-infer .infer .kept .1 .1 .1 .1 .0 ∙ after-star-part .star-part .kept .1 .1 .1 .1 .0
+    c .before .before .copy .kept .1 .0 ∙ after-step-into .step-into .kept .1 .1 .0 ∙ long t (after-step-into .before .before .before)
 
 returns-8 : (t : ℕ) → cast-up-lts.Need-returns-8 (cast-up-claims t) (cast-up-at t) cast-up.Post
 unfolding size
@@ -145,8 +141,8 @@ returns-8 t c Γ a e S =
     let after-known-told3 = after-same .before .before .before in
     let after-step-into = after-known-told3 .before .before .before .before .before in
     let after-known-told2 = after-step-into .before .before .before in
-    let after-known-told = after-known-told2 .before .before .before .before .before .before .before .before .before in
-    let start = after-known-told .before .before .before .before .before .before .before .before .before .before .before .before in
+    let after-known-told = annotation-place t after-known-told2 in
+    let start = start-place t after-known-told in
     let B = both t after-known-told2 Γ a e S in
     let m = next-state t after-known-told3 Γ a e S in
     let r = room t after-known-told2 in

@@ -6,6 +6,7 @@ use mathlib.Core.List.{List}
 use mathlib.Core.Path.{_≡_}
 use native.Mathlib.Omega.{arith}
 use lib.ListN.{length}
+use borrow.Fn.Kind.{PK}
 use borrow.Fn.Kinds.{In}
 use borrow.Fn.PlainCycle.{Measures, is, falls, and}
 use Rattle.calculus.specs.Term.{Term}
@@ -75,53 +76,60 @@ abbrev pub μ-recursion : Measures 4 recursion-kinds.ps ℕ
 abbrev pub μ-star-part : Measures 4 star-part-kinds.ps ℕ
 μ-star-part κs a = 3 * length (a .1 .0 .now) + 2
 
+-- What is required of a member at the measure `t`, as it is proved, and below `t`, as it is called.
+abbrev pub at-measure : (ps : List (PK 4)) → Measures 4 ps ℕ → In 4 ps → ℕ → In 4 ps
+at-measure ps μ pre t = and 4 ps (is 4 ps μ t) pre
+
+abbrev pub below-measure : (ps : List (PK 4)) → Measures 4 ps ℕ → In 4 ps → ℕ → In 4 ps
+below-measure ps μ pre t = and 4 ps (falls 4 ps _<_ μ t) pre
+
 abbrev pub abstraction-at : ℕ → In 4 abstraction-kinds.ps
-abstraction-at t = and 4 abstraction-kinds.ps (is 4 abstraction-kinds.ps μ-abstraction t) abstraction.Pre
+abstraction-at = at-measure abstraction-kinds.ps μ-abstraction abstraction.Pre
 
 abbrev pub abstraction-below : ℕ → In 4 abstraction-kinds.ps
-abstraction-below t = and 4 abstraction-kinds.ps (falls 4 abstraction-kinds.ps _<_ μ-abstraction t) abstraction.Pre
+abstraction-below = below-measure abstraction-kinds.ps μ-abstraction abstraction.Pre
 
 abbrev pub application-at : ℕ → In 4 application-kinds.ps
-application-at t = and 4 application-kinds.ps (is 4 application-kinds.ps μ-application t) application.Pre
+application-at = at-measure application-kinds.ps μ-application application.Pre
 
 abbrev pub application-below : ℕ → In 4 application-kinds.ps
-application-below t = and 4 application-kinds.ps (falls 4 application-kinds.ps _<_ μ-application t) application.Pre
+application-below = below-measure application-kinds.ps μ-application application.Pre
 
 abbrev pub cast-down-at : ℕ → In 4 cast-down-kinds.ps
-cast-down-at t = and 4 cast-down-kinds.ps (is 4 cast-down-kinds.ps μ-cast-down t) cast-down.Pre
+cast-down-at = at-measure cast-down-kinds.ps μ-cast-down cast-down.Pre
 
 abbrev pub cast-down-below : ℕ → In 4 cast-down-kinds.ps
-cast-down-below t = and 4 cast-down-kinds.ps (falls 4 cast-down-kinds.ps _<_ μ-cast-down t) cast-down.Pre
+cast-down-below = below-measure cast-down-kinds.ps μ-cast-down cast-down.Pre
 
 abbrev pub cast-up-at : ℕ → In 4 cast-up-kinds.ps
-cast-up-at t = and 4 cast-up-kinds.ps (is 4 cast-up-kinds.ps μ-cast-up t) cast-up.Pre
+cast-up-at = at-measure cast-up-kinds.ps μ-cast-up cast-up.Pre
 
 abbrev pub cast-up-below : ℕ → In 4 cast-up-kinds.ps
-cast-up-below t = and 4 cast-up-kinds.ps (falls 4 cast-up-kinds.ps _<_ μ-cast-up t) cast-up.Pre
+cast-up-below = below-measure cast-up-kinds.ps μ-cast-up cast-up.Pre
 
 abbrev pub infer-at : ℕ → In 4 infer-kinds.ps
-infer-at t = and 4 infer-kinds.ps (is 4 infer-kinds.ps μ-infer t) infer.Pre
+infer-at = at-measure infer-kinds.ps μ-infer infer.Pre
 
 abbrev pub infer-below : ℕ → In 4 infer-kinds.ps
-infer-below t = and 4 infer-kinds.ps (falls 4 infer-kinds.ps _<_ μ-infer t) infer.Pre
+infer-below = below-measure infer-kinds.ps μ-infer infer.Pre
 
 abbrev pub product-at : ℕ → In 4 product-kinds.ps
-product-at t = and 4 product-kinds.ps (is 4 product-kinds.ps μ-product t) product.Pre
+product-at = at-measure product-kinds.ps μ-product product.Pre
 
 abbrev pub product-below : ℕ → In 4 product-kinds.ps
-product-below t = and 4 product-kinds.ps (falls 4 product-kinds.ps _<_ μ-product t) product.Pre
+product-below = below-measure product-kinds.ps μ-product product.Pre
 
 abbrev pub recursion-at : ℕ → In 4 recursion-kinds.ps
-recursion-at t = and 4 recursion-kinds.ps (is 4 recursion-kinds.ps μ-recursion t) recursion.Pre
+recursion-at = at-measure recursion-kinds.ps μ-recursion recursion.Pre
 
 abbrev pub recursion-below : ℕ → In 4 recursion-kinds.ps
-recursion-below t = and 4 recursion-kinds.ps (falls 4 recursion-kinds.ps _<_ μ-recursion t) recursion.Pre
+recursion-below = below-measure recursion-kinds.ps μ-recursion recursion.Pre
 
 abbrev pub star-part-at : ℕ → In 4 star-part-kinds.ps
-star-part-at t = and 4 star-part-kinds.ps (is 4 star-part-kinds.ps μ-star-part t) star-part.Pre
+star-part-at = at-measure star-part-kinds.ps μ-star-part star-part.Pre
 
 abbrev pub star-part-below : ℕ → In 4 star-part-kinds.ps
-star-part-below t = and 4 star-part-kinds.ps (falls 4 star-part-kinds.ps _<_ μ-star-part t) star-part.Pre
+star-part-below = below-measure star-part-kinds.ps μ-star-part star-part.Pre
 
 abbrev pub abstraction-claims : ℕ → abstraction-lts.Claims
 abstraction-claims t = (star-part-below t, star-part.Post, narrow-reads.Asked, narrow-reads.Learnt, infer-below t, infer.Post, refused-reads.Asked, refused-reads.Learnt, copy-reads.Asked, copy-reads.Learnt)

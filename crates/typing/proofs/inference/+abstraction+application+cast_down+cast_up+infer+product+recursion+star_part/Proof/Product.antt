@@ -15,7 +15,7 @@ use Rattle.calculus.proofs.Testing.{equal, fitting}
 use Rattle.typing.specs.declared.inference.Inferred.the-variants as inferred
 use Rattle.typing.specs.Inference.{Subject, star-typed}
 use Rattle.typing.proofs.Parts.{annotation-found, second-place, reaches, below, below-context, below-wide}
-use Rattle.typing.proofs.Passing.{Part, passed, typed, found, lying, star-first, starred, starred-type}
+use Rattle.typing.proofs.Passing.{Part, passed, typed, found, lying, star-first, starred}
 use Rattle.typing.proofs.Rooms.{subject-shallow}
 use Rattle.typing.proofs.Nodes.{of-pi, two-levels}
 use Rattle.typing.proofs.Subjects.{behind, first, subject-some, subject-parts, place-short, place-first}
@@ -114,12 +114,12 @@ returns-3 t c Γ a b S =
     let A = typed-domain t (after-narrow .before .before) Γ a b S in
     let E = below S _ A (after-narrow .narrow .result) of-pi (after-narrow .narrow .ensures) in
     let B = typed (c .before .before .before .before .before .star-part2 .ensures (a ∷ Γ) b E) (c .before .codomain .given .1) in
+    let is-star = starred _ (a ∷ Γ) _ b (B .found) in
     found
-    (by-both _ Γ _ a b (annotation-found S _ A) (rw (← second-place S _ A of-pi) (starred _ (a ∷ Γ) _ b (B .found)))
-    (start .pre .1 .4 .some))
+    (by-both _ Γ _ a b (annotation-found S _ A) (rw (← second-place S _ A of-pi) (is-star .0)) (start .pre .1 .4 .some))
     (record {
       answer = unfold size in ap (λ n. inferred.Typed n 1) (omega (arith, A .read, B .read));
-      lies = lying B (starred-type _ (a ∷ Γ) _ b (B .found));
+      lies = lying B (is-star .1);
       front = B .front ∙ A .front;
       context = below-context S _ A _ B;
       wide = below-wide S _ A _ B;

@@ -31,11 +31,15 @@ pub record Reach (from sub next room : ℕ) : Type 0 where
   pub fits : next ≤ room
   pub small : room * 2 < 2 ^ 63
 
+-- The application, as the subject where the code starts.
+abbrev pub Node : (t : ℕ) → application-lts.Start (application-claims t) (application-at t) application.Post → Context → Term → Term → Type 0
+Node t start Γ f u = Subject Γ (app f u) (start .args .term .now) (start .args .sub .now) (start .args .context .now) (start .args .depth)
+
 -- The function is typed.
 pub typed-function : (t : ℕ) (c : application-lts.After-function (application-claims t) (application-at t) application.Post) (Γ : Context) (f u : Term)
     → let after-infer = c .before .before .before .before in
     let start = after-infer .before .before .before .before .before .before .before in
-    Subject Γ (app f u) (start .args .term .now) (start .args .sub .now) (start .args .context .now) (start .args .depth)
+    Node t start Γ f u
     → Part (infer (start .args .limit) Γ (length (start .args .term .now) - length (behind 1 (start .args .sub .now))) f) f
     (start .args .context .now) (start .args .depth) (start .args .work .now) (start .args .top) (c .function .given .0 .0)
     (c .function .given .0 .1 .0) (after-infer .infer .last .1 .1 .1 .1 .0) (after-infer .infer .last .1 .1 .0)
@@ -67,7 +71,7 @@ start-place t c = function-place t c .before .before .before .before .before .be
 pub calls : (t : ℕ) (c : application-lts.After-known-told2 (application-claims t) (application-at t) application.Post) (Γ : Context) (f u : Term)
     → let function = function-place t c .function .given .0 in
     let start = start-place t c in
-    Subject Γ (app f u) (start .args .term .now) (start .args .sub .now) (start .args .context .now) (start .args .depth)
+    Node t start Γ f u
     → Called (start .args .limit) Γ (length (start .args .term .now) - length (start .args .sub .now)) f u
     (start .args .context .now) (start .args .depth) (start .args .work .now) (start .args .top)
     (function .0) (c .before .argument .given .0 .0) (function .1 .0) (c .before .argument .given .0 .1 .0)
@@ -107,14 +111,14 @@ reach-both t c =
 pub domain-long : (t : ℕ) (c : application-lts.After-span (application-claims t) (application-at t) application.Post) (Γ : Context) (f u : Term)
     → let after-argument = c .before .before .before in
     let start = start-place t after-argument in
-    (S : Subject Γ (app f u) (start .args .term .now) (start .args .sub .now) (start .args .context .now) (start .args .depth))
+    (S : Node t start Γ f u)
     → c .span .result ≡ size (calls t after-argument Γ f u S .domain)
 domain-long t c Γ f u S = c .span .ensures .0 ∙ domain-span (calls t (c .before .before .before) Γ f u S)
 
 pub measured : (t : ℕ) (c : application-lts.Else2 (application-claims t) (application-at t) application.Post) (Γ : Context) (f u : Term)
     → let after-argument = c .before .before .before .before .before .before .before in
     let start = start-place t after-argument in
-    (S : Subject Γ (app f u) (start .args .term .now) (start .args .sub .now) (start .args .context .now) (start .args .depth))
+    (S : Node t start Γ f u)
     → let p = length (start .args .term .now) - length (start .args .sub .now) in
     infer (start .args .limit) Γ p (app f u) ≡ measure (start .args .limit) p (substitute 0 u (calls t after-argument Γ f u S .codomain))
 measured t c Γ f u S =
@@ -126,7 +130,7 @@ measured t c Γ f u S =
 pub puts : (t : ℕ) (c : application-lts.After-put-in (application-claims t) (application-at t) application.Post) (Γ : Context) (f u : Term)
     → let after-argument = c .before .before .before .before .before .before .before .before .before .before in
     let start = start-place t after-argument in
-    (S : Subject Γ (app f u) (start .args .term .now) (start .args .sub .now) (start .args .context .now) (start .args .depth))
+    (S : Node t start Γ f u)
     → Puts (substitute 0 u (calls t after-argument Γ f u S .codomain))
     (after-argument .before .before .before .before .before .infer2 .last .1 .1 .1 .1 .0) (start .args .top) (start .args .limit)
     (c .put-in .result) (c .put-in .last .1 .1 .0)
