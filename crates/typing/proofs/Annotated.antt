@@ -2,14 +2,13 @@
 -- measures it. Raising keeps its length, so that it fits the limit raised if it fits as it stands.
 use Prim.Native.Nat.{ℕ, suc, _+_, _≤_}
 use mathlib.Core.List.{List, _++_}
-use mathlib.Core.Path.{_≡_, sym, ap, _∙_, subst}
+use mathlib.Core.Path.{_≡_, ap, _∙_, subst}
 use native.Mathlib.Numerals.{add-one}
 use native.Mathlib.Omega.{arith}
 use lib.ListN.{length, take, drop, length-drop}
-use lib.Seq.{take-at}
 use Rattle.calculus.specs.Term.{Term, size, raise}
 use Rattle.calculus.specs.Words.{words, longest}
-use Rattle.calculus.proofs.Coding.{emit-append, emit-length, words-length}
+use Rattle.calculus.proofs.Coding.{emit-length}
 use Rattle.term.specs.Walk.{span}
 use Rattle.term.proofs.Walking.{span-emit}
 use Rattle.reduction.specs.declared.copying.Room.{Room}
@@ -20,16 +19,14 @@ use Rattle.typing.specs.Inference.{Annotation, Raises}
 use Rattle.typing.specs.declared.inference.Inferred.the-variants as inferred
 use Rattle.typing.proofs.Lent.{puts}
 use Rattle.typing.proofs.Raising.{raise-size}
-use Rattle.typing.proofs.Subjects.{behind, behind-drop}
+use Rattle.typing.proofs.Subjects.{behind, behind-drop, begun-words}
 
 module _ {a : Term} {index : ℕ} {term : List ℕ} {from : ℕ} (A : Annotation a index term from) where
   pub annotation-span : span (behind from term) 1 ≡ size a
   annotation-span = ap (λ ws. span ws 1) (behind-drop from term ∙ A .begins) ∙ span-emit a (A .rest)
 
   pub annotation-words : (n : ℕ) → n ≡ size a → take n (drop from term) ≡ words a
-  annotation-words n same =
-      ap (take n) (A .begins ∙ emit-append a (A .rest))
-      ∙ take-at (words a) (A .rest) n (words-length a ∙ sym same)
+  annotation-words n same = begun-words a n (A .rest) (A .begins) same
 
   pub annotation-short : size a ≤ longest
   annotation-short = omega (arith, ap length (A .begins), emit-length a (A .rest), length-drop from term, A .short)

@@ -1,33 +1,34 @@
 -- Function and argument of an application, once both are typed: the function's type, a product, lies at `top`, and the argument's type
 -- behind it. So its domain and its codomain lie behind the first word.
 use Prim.Native.Nat.{ℕ, suc, _+_, _-_, _≤_}
-use mathlib.Core.Bool.{Bool, true, false}
+use mathlib.Core.Bool.{Bool, true, false, not}
 use mathlib.Core.List.{List}
 use mathlib.Core.Logic.{_↔_, _≢_}
-use mathlib.Core.Path.{_≡_, sym, ap, subst, _∙_}
+use mathlib.Core.Path.{_≡_, refl, sym, ap, subst, _∙_}
 use native.Mathlib.Nat.{add-assoc}
 use native.Mathlib.Omega.{arith}
 use lib.ListN.{length, take, drop, getD}
-use lib.Seq.{take-all, take-at, drop-at, drop-drop, take-take}
+use lib.Seq.{take-all, drop-at, drop-drop, take-take}
 use Rattle.calculus.specs.Term.{Term, app, pi, size}
 use Rattle.calculus.specs.Answer.{ok}
 use Rattle.calculus.specs.Words.{emit, words, Scoped, longest}
 use Rattle.calculus.specs.Reading.{meaning, a-pi}
 use Rattle.calculus.specs.Rules.{Context}
 use Rattle.calculus.specs.Infer.{infer}
-use Rattle.calculus.proofs.Coding.{emit-append, emit-length, words-length, words-injective}
+use Rattle.calculus.proofs.Coding.{emit-append, emit-length, words-length}
 use Rattle.reduction.specs.Stepping.{Codes}
 use Rattle.reduction.proofs.Scoping.{scoped-more}
 use Rattle.term.specs.Walk.{span}
 use Rattle.term.proofs.Walking.{span-emit}
 use Rattle.typing.specs.Inference.{Subject}
 use Rattle.typing.proofs.Nodes.{of-app}
-use Rattle.typing.proofs.Subjects.{behind, between as part-words, first, second, kept, place-first, place-second}
-use Rattle.typing.proofs.Rooms.{subject-shallow, deeper-scoped}
+use Rattle.typing.proofs.Subjects.{behind, begun-words, between as part-words, first, second, kept, place-first, place-second}
+use Rattle.typing.proofs.Rooms.{subject-shallow}
 use Rattle.typing.proofs.Types.{type-scoped, type-fits}
 use Rattle.typing.proofs.Passing.{Part}
-use Rattle.typing.proofs.Heads.{Headed, lying-headed, lying-pi}
+use Rattle.typing.proofs.Heads.{Headed, type-headed, type-meaning}
 use Rattle.typing.proofs.Written.{same-part}
+use Rattle.typing.proofs.Compared.{compared}
 
 -- Function `f` and argument `u` of an application at `p`.
 pub record Called (L : ℕ) (Γ : Context) (p : ℕ) (f u : Term) (places : List ℕ) (depth : ℕ) (work : List ℕ) (top n more m own : ℕ) (after places′ : List ℕ) : Type 0 where
@@ -63,13 +64,12 @@ module _ {Γ : Context} {f u : Term} {term sub places : List ℕ} {depth : ℕ} 
 
   -- The first word decides whether its type is a product.
   pub other-type : meaning (getD between top 0) ≢ a-pi → (a b : Term) → F .type ≢ pi a b
-  other-type n a b x = n (lying-pi a b m top between (F .lies ∙ ap words x) (F .long ∙ ap size x))
+  unfolding words emit meaning
+  other-type n a b x = n (type-meaning F x)
 
   pub is-product : a-pi ≡ meaning (getD between top 0) → (a : Term) × (b : Term) × (F .type ≡ pi a b)
   unfolding Headed
-  is-product w =
-      subst (λ k. Headed k (F .type)) (sym w)
-      (lying-headed (F .type) m top between (F .lies) (F .long) (deeper-scoped S (F .type) (type-scoped (first S of-app) L _ (F .found))))
+  is-product w = type-headed L _ (first S of-app) F w
 
   pub function-product : (w : a-pi ≡ meaning (getD between top 0))
       → infer L Γ (suc (length term - length sub)) f ≡ ok (pi (is-product w .0) (is-product w .1))
@@ -132,8 +132,7 @@ module _ {L : ℕ} {Γ : Context} {p : ℕ} {f u : Term} {places : List ℕ} {de
     unfolding words emit
     domain-words =
         inner after (words (pi (C .domain) (C .codomain))) top m 1 d (C .lies) (omega (arith, C .long))
-        ∙ ap (take d) (emit-append (C .domain) (words (C .codomain)))
-        ∙ take-at (words (C .domain)) (words (C .codomain)) d (words-length (C .domain) ∙ sym x)
+        ∙ begun-words (C .domain) d (words (C .codomain)) refl x
 
     pub codomain-words : take (m - 1 - d) (drop (top + 1 + d) after) ≡ words (C .codomain)
     unfolding words emit
@@ -160,13 +159,11 @@ module _ {L : ℕ} {Γ : Context} {p : ℕ} {f u : Term} {places : List ℕ} {de
           shut = λ z. let y : _≡_ {A = ℕ} 0 1 = cc in absurd (omega arith);
         }
 
-    -- The comparison of domain and argument.
-    module _ (alike : Bool) (y : own ≡ d)
-        (tells : (alike ≡ true) ↔ (take d (drop (top + 1) after) ≡ take d (drop (top + m) after))) where
-      pub same-type : alike ≡ true → C .type ≡ C .domain
-      same-type z =
-          words-injective (C .type) (C .domain)
-          (sym (C .type-lies) ∙ ap (λ k. take k (drop (top + m) after)) y ∙ sym (tells .0 z) ∙ domain-words)
-
-      pub told-same : C .type ≡ C .domain → alike ≡ true
-      told-same z = tells .1 (domain-words ∙ ap words (sym z) ∙ sym (C .type-lies) ∙ ap (λ k. take k (drop (top + m) after)) y)
+    -- The comparison of the argument's type with the domain.
+    pub compared-argument : {alike : Bool}
+        → own ≡ d
+        → (alike ≡ true) ↔ (take d (drop (top + 1) after) ≡ take d (drop (top + m) after))
+        → (not alike ≡ true → C .type ≢ C .domain) × (not alike ≡ false → C .type ≡ C .domain)
+    compared-argument y tells =
+        compared after (top + 1) (top + m) d (C .type) (C .domain) domain-words
+        (ap (λ k. take k (drop (top + m) after)) (sym y) ∙ C .type-lies) tells

@@ -1,5 +1,5 @@
--- Two terms are the same if and only if their words are: so terms of different lengths differ, and where one lies behind the other in a
--- slice, a comparison of as many words as both have decides it.
+-- Two terms are the same if and only if their words are: so terms of different lengths differ, and where both lie in a slice, a
+-- comparison of as many words as both have decides it.
 use Prim.Native.Nat.{ℕ, _+_, _≤_}
 use mathlib.Core.Bool.{Bool, true, false, not}
 use mathlib.Core.List.{List}
@@ -17,6 +17,23 @@ use Rattle.typing.proofs.Written.{written, lies-still}
 pub longer : {m n : ℕ} (σ τ : Term) → m ≡ size σ → n ≡ size τ → (m ≡ n → ⊥) → σ ≢ τ
 longer σ τ x y d q = d (x ∙ ap size q ∙ sym y)
 
+-- τ and σ lie in a slice, and as many words as both have were compared.
+module _ (ws : List ℕ) (first second count : ℕ) (σ τ : Term)
+    (x : take count (drop first ws) ≡ words τ) (y : take count (drop second ws) ≡ words σ)
+    {r : Bool} (h : (r ≡ true) ↔ (take count (drop first ws) ≡ take count (drop second ws))) where
+  same-term : not r ≡ false → σ ≡ τ
+  same-term q = sym (words-injective τ σ (sym x ∙ h .0 (not-false r q) ∙ y))
+
+  other-term : not r ≡ true → σ ≢ τ
+  other-term q e =
+      let t = h .1 (x ∙ ap words (sym e) ∙ sym y) in
+      let f = not-true r q in
+      let z : _≡_ {A = ℕ} 0 1 = cc in
+      omega arith
+
+  pub compared : (not r ≡ true → σ ≢ τ) × (not r ≡ false → σ ≡ τ)
+  compared = (other-term, same-term)
+
 -- τ lies at `top`, and σ was written behind it.
 module _ (before : List ℕ) (top m : ℕ) {after : List ℕ} (σ τ : Term)
     (lies : take m (drop top before) ≡ words τ) (x : after ≡ sets before (top + m) (words σ)) (long : m ≡ size σ)
@@ -28,12 +45,5 @@ module _ (before : List ℕ) (top m : ℕ) {after : List ℕ} (σ τ : Term)
   second-lies : take m (drop (top + m) after) ≡ words σ
   second-lies = ap (λ k. take k (drop (top + m) after)) long ∙ written before (top + m) σ x (omega arith)
 
-  pub same-term : not r ≡ false → σ ≡ τ
-  same-term q = sym (words-injective τ σ (sym first-lies ∙ h .0 (not-false r q) ∙ second-lies))
-
-  pub other-term : not r ≡ true → σ ≢ τ
-  other-term q e =
-      let t = h .1 (first-lies ∙ ap words (sym e) ∙ sym second-lies) in
-      let f = not-true r q in
-      let z : _≡_ {A = ℕ} 0 1 = cc in
-      omega arith
+  pub compared-behind : (not r ≡ true → σ ≢ τ) × (not r ≡ false → σ ≡ τ)
+  compared-behind = compared after top (top + m) m σ τ first-lies second-lies h

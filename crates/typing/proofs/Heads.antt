@@ -13,10 +13,12 @@ use lib.Seq.{getD-take, getD-drop}
 use mir.Val.{hasKey}
 use types.Run.{OneOf, miss}
 use Rattle.calculus.specs.Term.{Term, var, star, app, lam, pi, castup, castdown, mu, size}
+use Rattle.calculus.specs.Answer.{Answer}
 use Rattle.calculus.specs.Words.{emit, words, Scoped, deepest}
 use Rattle.calculus.specs.Reading as calculus
 use Rattle.calculus.specs.Reading.{meaning, a-star, a-castdown, an-app, a-castup, a-lam, a-pi, a-mu, a-variable, nothing}
 use Rattle.calculus.specs.Rules.{Context}
+use Rattle.calculus.specs.Infer.{infer}
 use Rattle.calculus.proofs.Coding.{size-positive}
 use Rattle.calculus.proofs.Meanings.{meaning-word, word, Indexed}
 use Rattle.term.specs.Word.{meaning-of}
@@ -25,6 +27,8 @@ use Rattle.term.proofs.Visits.{tag}
 use Rattle.reduction.proofs.WordKinds.{index, tag-index}
 use Rattle.typing.specs.Inference.{Subject}
 use Rattle.typing.proofs.Rooms.{own-scope, deeper-scoped}
+use Rattle.typing.proofs.Types.{type-scoped}
+use Rattle.typing.proofs.Passing.{Part}
 
 -- A term with the node that is meant.
 unfoldable pub Headed : calculus.Meaning → Term → Type 0
@@ -49,12 +53,14 @@ headed (castup a e) r s = (a, e, refl)
 headed (castdown e) r s = (e, refl)
 headed (mu a e) r s = (a, e, refl)
 
-pub subject-headed : {Γ : Context} {e : Term} {term sub places : List ℕ} {depth : ℕ} {m : calculus.Meaning}
+-- The first word of the words read, which the code found to mean `m`.
+pub subject-headed : {Γ : Context} {e : Term} {term sub places : List ℕ} {depth : ℕ} {r m : Meaning}
     → Subject Γ e term sub places depth
-    → m ≡ meaning (getD sub 0 0)
-    → Headed m e
-subject-headed {e} S x =
-    subst (λ k. Headed k e) (ap (λ ws. meaning (getD ws 0 0)) (sym (S .begins)) ∙ sym x)
+    → r ≡ m
+    → meaning-of r ≡ meaning (getD sub 0 0)
+    → Headed (meaning-of m) e
+subject-headed {e} S told means =
+    subst (λ k. Headed k e) (ap (λ ws. meaning (getD ws 0 0)) (sym (S .begins)) ∙ sym means ∙ ap meaning-of told)
     (headed e (S .rest) (deeper-scoped S e (own-scope S)))
 
 -- The first word of what lies in a slice.
@@ -68,28 +74,23 @@ lying-word τ m top after x l =
     ∙ sym (getD-take m (drop top after) 0 0 (omega (arith, size-positive τ)))
     ∙ ap (λ ws. getD ws 0 0) x
 
-pub lying-headed : (τ : Term) (m top : ℕ) (after : List ℕ)
-    → take m (drop top after) ≡ words τ
-    → m ≡ size τ
-    → Scoped deepest τ
-    → Headed (meaning (getD after top 0)) τ
+-- The type that was found of a subterm: its first word says which node it is.
+pub type-headed : {Γ : Context} {e : Term} {term sub places : List ℕ} {depth : ℕ} (L p : ℕ) {places₀ : List ℕ} {depth₀ : ℕ} {work : List ℕ} {top n m : ℕ} {after places′ : List ℕ} {k : calculus.Meaning}
+    → Subject Γ e term sub places depth
+    → (part : Part (infer L Γ p e) e places₀ depth₀ work top n m after places′)
+    → k ≡ meaning (getD after top 0)
+    → Headed k (part .type)
 unfolding words
-lying-headed τ m top after x l s =
-    subst (λ w. Headed (meaning w) τ) (sym (lying-word τ m top after x l)) (headed τ [] s)
+type-headed L p {top} {m} {after} S part w =
+    let τ = part .type in
+    subst (λ k. Headed k τ) (ap meaning (sym (lying-word τ m top after (part .lies) (part .long))) ∙ sym w)
+    (headed τ [] (deeper-scoped S τ (type-scoped S L p (part .found))))
 
-pub lying-star : (m top : ℕ) (after : List ℕ)
-    → take m (drop top after) ≡ words star
-    → m ≡ size star
-    → meaning (getD after top 0) ≡ a-star
-unfolding words emit meaning
-lying-star m top after x l = ap meaning (lying-word star m top after x l)
-
-pub lying-pi : (a b : Term) (m top : ℕ) (after : List ℕ)
-    → take m (drop top after) ≡ words (pi a b)
-    → m ≡ size (pi a b)
-    → meaning (getD after top 0) ≡ a-pi
-unfolding words emit meaning
-lying-pi a b m top after x l = ap meaning (lying-word (pi a b) m top after x l)
+pub type-meaning : {x : Answer Term} {e τ : Term} {places : List ℕ} {depth : ℕ} {work : List ℕ} {top n m : ℕ} {after places′ : List ℕ}
+    → (part : Part x e places depth work top n m after places′)
+    → part .type ≡ τ
+    → meaning (getD after top 0) ≡ meaning (getD (words τ) 0 0)
+type-meaning {τ} {top} {m} {after} part x = ap meaning (lying-word τ m top after (part .lies ∙ ap words x) (part .long ∙ ap size x))
 
 -- What a decision says that takes another way.
 other : (ks : List ℕ) (m : calculus.Meaning) (r : Meaning) → T (not (hasKey ks (index m))) → OneOf ks (tag r) → meaning-of r ≢ m

@@ -1,10 +1,10 @@
--- What a step within the limit says of the calculus: where the code found no step there is none, where it did not fit the next state
--- is over the limit, and otherwise the next state lies where it was to be written.
+-- What a step within the limit says of the calculus. There is no next state, or one that is within the limit, or one over it, and
+-- each has its own answer: so where the code found no step there is none, where it did not fit the next state is over the limit,
+-- and otherwise the next state lies where it was to be written.
 use Prim.Native.Nat.{ℕ, suc, _≤_, _<_}
 use mathlib.Core.List.{List}
 use mathlib.Core.Logic.{_⊎_, ⊎-elim}
 use mathlib.Core.Path.{_≡_, refl, ap, _∙_}
-use native.Mathlib.Decide.{decLe}
 use native.Mathlib.Omega.{arith}
 use denote.Enum.Declared.{tagOf}
 use lib.ListN.{take}
@@ -19,6 +19,7 @@ use Rattle.reduction.specs.declared.stepping.Stepped.the-variants.{To, Full}
 use Rattle.reduction.proofs.stepping.Stepped.{the-type}
 use Rattle.reduction.proofs.Stores.{take-sets}
 use Rattle.typing.specs.Moving.{Moves}
+use Rattle.typing.proofs.Putting.{within-or-over}
 
 pub record Moved (n : Next) (work : List ℕ) (top limit k : ℕ) (after : List ℕ) : Type 0 where
   pub state : Term
@@ -46,11 +47,7 @@ module _ (work : List ℕ) (top limit : ℕ) (r : Stepped) (after : List ℕ) wh
       → (limit < size x → r ≡ Full → A)
       → A
   unfolding Moves
-  by-limit {A} x m within over = on (decLe (size x) limit)
-    where
-      on : Dec (size x ≤ limit) → A
-      on (yes h) = within h (m .0 h .0) (m .0 h .1)
-      on (no n) = let h : limit < size x = omega arith in over h (m .1 h)
+  by-limit x m within over = within-or-over x limit (λ h. within h (m .0 h .0) (m .0 h .1)) (λ h. over h (m .1 h))
 
   pub moved : (n : Next) {k : ℕ} → Moves n work top limit r after → r ≡ To k → Moved n work top limit k after
   unfolding Moves

@@ -14,7 +14,7 @@ use Rattle.calculus.specs.Infer.{infer}
 use Rattle.calculus.proofs.Coding.{size-positive}
 use Rattle.typing.specs.Inference.{Subject, star-typed}
 use Rattle.typing.proofs.Nodes.{Two, two-size}
-use Rattle.typing.proofs.Subjects.{behind, subject-long, first, second, under, kept, still, place-first, place-second, between}
+use Rattle.typing.proofs.Subjects.{behind, subject-long, subject-parts, first, second, under, kept, still, place-first, place-second, between}
 use Rattle.typing.proofs.Passing.{Part, starred}
 use Rattle.typing.proofs.Types.{type-typed, type-fits}
 
@@ -36,7 +36,7 @@ module _ {Γ : Context} {e a : Term} {term sub places : List ℕ} {depth : ℕ} 
     {work : List ℕ} {top n m₁ : ℕ} {mid places₁ : List ℕ}
     (A : Part (star-typed L Γ (length term - length (behind 1 sub)) a) a places depth work top n m₁ mid places₁) where
   is-star : infer L Γ (length term - length (behind 1 sub)) a ≡ ok star
-  is-star = starred L Γ (length term - length (behind 1 sub)) a (A .found)
+  is-star = starred L Γ (length term - length (behind 1 sub)) a (A .found) .0
 
   pub annotation-found : infer L Γ (suc (length term - length sub)) a ≡ ok star
   annotation-found = rw (← place-first S) is-star
@@ -116,3 +116,11 @@ module _ {Γ : Context} {e a : Term} {term sub places : List ℕ} {depth : ℕ} 
         context = below-context place B;
         wide = below-wide place B;
       }
+
+-- The words reach to the end of the second part.
+pub both-reach : {L : ℕ} {Γ Δ : Context} {p : ℕ} {e a b : Term} {term sub places : List ℕ} {depth k : ℕ} {work : List ℕ} {top from n more m : ℕ} {after places′ : List ℕ}
+    → Subject Γ e term sub places depth
+    → Two k e a b
+    → Both L Γ Δ p a b places depth work top from n more m after places′
+    → (1 + n + more ≤ length sub) × (length sub ≤ longest)
+both-reach S h B = omega (arith, subject-parts S h, B .read, B .further, S .within, S .short)

@@ -1,5 +1,6 @@
--- What the answer for a part says of the whole. A part that is refused is the answer of the whole; a part that is typed has a type,
--- which lies where the part was asked for; and the whole refuses where the code does, by the same reason at the same place.
+-- What the answer for a part says of the whole. Inference of a node goes on from a part that is typed and ends at one that is
+-- refused: so a part's refusal is the answer of the whole, and a part that is typed has a type, which lies where the part was
+-- asked for. The whole refuses where the code does, by the same reason at the same place.
 use Prim.Native.Nat.{ℕ}
 use mathlib.Core.Bool.{Bool, true, false}
 use mathlib.Core.List.{List}
@@ -12,7 +13,7 @@ use Rattle.calculus.specs.Answer.{Answer, ok, refused, _>>=_, _>>_, require, no
 use Rattle.calculus.specs.Words.{words}
 use Rattle.calculus.specs.Rules.{Context}
 use Rattle.calculus.specs.Infer.{infer, same}
-use Rattle.calculus.proofs.Testing.{unequal}
+use Rattle.calculus.proofs.Testing.{equal, unequal}
 use Rattle.term.specs.Reasons.{reason-of}
 use Rattle.term.specs.declared.refusal.Reason.{Reason}
 use Rattle.term.specs.declared.refusal.Refusal.{Refusal}
@@ -90,27 +91,18 @@ star-first (ok σ) p k = on (same σ star)
     on false = refl
 star-first (refused s q) p k = refl
 
--- A part that has to be of type star and is typed.
-pub starred : (L : ℕ) (Γ : Context) (p : ℕ) (e : Term) {σ : Term} → star-typed L Γ p e ≡ ok σ → infer L Γ p e ≡ ok star
+-- A part that has to be of type star and is typed: it is of type star, and star is the answer.
+pub starred : (L : ℕ) (Γ : Context) (p : ℕ) (e : Term) {σ : Term} → star-typed L Γ p e ≡ ok σ → (infer L Γ p e ≡ ok star) × (σ ≡ star)
 unfolding star-typed _>>=_ _>>_ require
 starred L Γ p e {σ} g = on (infer L Γ p e) g
   where
-    is-star : (τ : Term) → Dec (τ ≡ star) → (require not-star p (same τ star) >> ok star) ≡ ok σ → _≡_ {A = Answer Term} (ok τ) (ok star)
-    is-star τ (yes x) g = ap ok x
-    is-star τ (no n) g = let g = rw (unequal n) at g in let z : _≡_ {A = ℕ} 0 1 = cc in absurd (omega arith)
+    tested : (τ : Term)
+        → Dec (τ ≡ star)
+        → (require not-star p (same τ star) >> ok star) ≡ ok σ
+        → (_≡_ {A = Answer Term} (ok τ) (ok star)) × (σ ≡ star)
+    tested τ (yes x) g = let g = rw (x, equal star) at g in (ap ok x, cc)
+    tested τ (no n) g = let g = rw (unequal n) at g in let z : _≡_ {A = ℕ} 0 1 = cc in absurd (omega arith)
 
-    on : (y : Answer Term) → (y >>= λ σ. require not-star p (same σ star) >> ok star) ≡ ok σ → y ≡ ok star
-    on (ok τ) g = is-star τ (Term-discrete ℕ-discrete τ star) g
-    on (refused s q) g = let z : _≡_ {A = ℕ} 0 1 = cc in absurd (omega arith)
-
-pub starred-type : (L : ℕ) (Γ : Context) (p : ℕ) (e : Term) {σ : Term} → star-typed L Γ p e ≡ ok σ → σ ≡ star
-unfolding star-typed _>>=_ _>>_ require
-starred-type L Γ p e {σ} g = on (infer L Γ p e) g
-  where
-    after-test : (b : Bool) → (require not-star p b >> ok star) ≡ ok σ → σ ≡ star
-    after-test true g = cc
-    after-test false g = let z : _≡_ {A = ℕ} 0 1 = cc in absurd (omega arith)
-
-    on : (y : Answer Term) → (y >>= λ σ. require not-star p (same σ star) >> ok star) ≡ ok σ → σ ≡ star
-    on (ok τ) g = after-test (same τ star) g
+    on : (y : Answer Term) → (y >>= λ σ. require not-star p (same σ star) >> ok star) ≡ ok σ → (y ≡ ok star) × (σ ≡ star)
+    on (ok τ) g = tested τ (Term-discrete ℕ-discrete τ star) g
     on (refused s q) g = let z : _≡_ {A = ℕ} 0 1 = cc in absurd (omega arith)

@@ -1,5 +1,5 @@
--- What a write within the limit says: where it did not fit, the term is over the limit, and otherwise it lies where it was to be
--- written.
+-- What a write within the limit says. A term is within the limit or over it, and each has its own answer: so where it did not
+-- fit, the term is over the limit, and otherwise it lies where it was to be written.
 use Prim.Native.Nat.{ℕ, _+_, _≤_, _<_}
 use mathlib.Core.List.{List}
 use mathlib.Core.Path.{_≡_}
@@ -12,23 +12,23 @@ use Rattle.reduction.specs.declared.copying.Room.{Room}
 use Rattle.reduction.specs.declared.copying.Room.the-variants as room
 use Rattle.typing.specs.Moving.{Puts}
 
+pub within-or-over : {A : Type 0} (x : Term) (limit : ℕ) → (size x ≤ limit → A) → (limit < size x → A) → A
+within-or-over {A} x limit within over = on (decLe (size x) limit)
+  where
+    on : Dec (size x ≤ limit) → A
+    on (yes h) = within h
+    on (no n) = over (omega arith)
+
 pub record Put (x : Term) (work : List ℕ) (top limit end : ℕ) (after : List ℕ) : Type 0 where
   pub fits : size x ≤ limit
   pub ends : end ≡ top + size x
   pub stored : after ≡ sets work top (words x)
 
 module _ {x : Term} {work : List ℕ} {top limit : ℕ} {r : Room} {after : List ℕ} (P : Puts x work top limit r after) where
-  either : {A : Type 0} → (size x ≤ limit → A) → (limit < size x → A) → A
-  either {A} yes-fits no-fits = on (decLe (size x) limit)
-    where
-      on : Dec (size x ≤ limit) → A
-      on (yes h) = yes-fits h
-      on (no n) = no-fits (omega arith)
-
   pub put : {end : ℕ} → r ≡ room.To end → Put x work top limit end after
   put q =
-      either (λ h. record { fits = h; ends = cc (P .fits h .0, q); stored = P .fits h .1 })
+      within-or-over x limit (λ h. record { fits = h; ends = cc (P .fits h .0, q); stored = P .fits h .1 })
       (λ h. let z : _≡_ {A = ℕ} 0 1 = cc (P .full h, q) in absurd (omega arith))
 
   pub put-over : r ≡ room.Full → limit < size x
-  put-over q = either (λ h. let z : _≡_ {A = ℕ} 0 1 = cc (P .fits h .0, q) in absurd (omega arith)) (λ h. h)
+  put-over q = within-or-over x limit (λ h. let z : _≡_ {A = ℕ} 0 1 = cc (P .fits h .0, q) in absurd (omega arith)) (λ h. h)

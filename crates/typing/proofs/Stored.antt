@@ -1,5 +1,5 @@
--- A run of stores into a part of a list is a run of stores into the list, where the part has room for it; and what was stored can be
--- read back.
+-- A run of stores into a part of a list is a run of stores into the list, where the part has room for it, since every store then
+-- is one into the part; and what was stored can be read back.
 use Prim.Native.Nat.{ℕ, suc, _+_, _≤_}
 use mathlib.Core.List.{List, [], _∷_, _++_, append-assoc}
 use mathlib.Core.Path.{_≡_, refl, sym, ap, _∙_}

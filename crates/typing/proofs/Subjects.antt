@@ -10,7 +10,7 @@ use native.Mathlib.Omega.{arith}
 use lib.ListN.{length, take, drop, getD, set, length-drop, length-set}
 use lib.Seq.{take-all, take-at, drop-at, drop-drop, take-take, take-set-le, getD-take, getD-set-same}
 use Rattle.calculus.specs.Term.{Term, star, castdown, size}
-use Rattle.calculus.specs.Words.{emit, words, levels, Scoped, deepest}
+use Rattle.calculus.specs.Words.{emit, words, levels, Scoped, longest, deepest}
 use Rattle.calculus.specs.Rules.{Context, WellFormed, env-var, _⊢_⦂_}
 use Rattle.calculus.proofs.Coding.{emit-append, emit-length, words-length, size-positive}
 use Rattle.typing.specs.Inference.{Subject, Placed}
@@ -25,6 +25,10 @@ behind-drop k ws = take-all (length ws - k) (drop k ws) (omega (arith, length-dr
 
 pub behind-length : (k : ℕ) (ws : List ℕ) → length (behind k ws) ≡ length ws - k
 behind-length k ws = ap length (behind-drop k ws) ∙ length-drop k ws
+
+-- The words that begin with a term's: as many as it is long are its own.
+pub begun-words : (e : Term) (n : ℕ) (rest : List ℕ) {ws : List ℕ} → ws ≡ emit e rest → n ≡ size e → take n ws ≡ words e
+begun-words e n rest x long = ap (take n) (x ∙ emit-append e rest) ∙ take-at (words e) rest n (words-length e ∙ sym long)
 
 -- Only the places below `depth` matter.
 placed-kept : (term : List ℕ) (Γ : Context) (places places′ : List ℕ) (depth : ℕ)
@@ -61,6 +65,10 @@ module _ {Γ : Context} {e : Term} {term sub places : List ℕ} {depth : ℕ} (S
 
   pub subject-some : 1 ≤ length sub
   subject-some = omega (arith, subject-long, size-positive e)
+
+  -- The place behind the first word is one of the longest term's.
+  pub place-short : length term - length sub + 1 ≤ longest
+  place-short = omega (arith, subject-some, S .within, S .short)
 
   -- Where the words from the `k`th on stand.
   further : (k : ℕ) → k ≤ length sub → length term - length (behind k sub) ≡ (length term - length sub) + k
@@ -137,14 +145,17 @@ module _ {Γ : Context} {e : Term} {term sub places : List ℕ} {depth : ℕ} (S
     pub place-second : (from : ℕ) → from ≡ 1 + size a → length term - length (behind from sub) ≡ suc (length term - length sub) + size a
     place-second from x = omega (arith, further from (omega (arith, subject-long, two-size h)))
 
-  pub inside : {a : Term} → e ≡ castdown a → Subject Γ a term (behind 1 sub) places depth
-  inside {a} x =
-      at-end 1 (S .rest) subject-some (ap (drop 1) (S .begins) ∙ unfold emit in ap (λ t. drop 1 (emit t (S .rest))) x) (S .around)
-      (S .wide) (S .placed) (S .well-formed) (unfold Scoped in subst (Scoped depth) x (S .scoped))
-      (unfold levels in omega (arith, ap levels x, S .deep))
-
   pub place-first : length term - length (behind 1 sub) ≡ suc (length term - length sub)
   place-first = omega (arith, further 1 subject-some)
+
+-- The body of a down cast.
+pub inside : {Γ : Context} {e : Term} {term sub places : List ℕ} {depth : ℕ}
+    → Subject Γ (castdown e) term sub places depth
+    → Subject Γ e term (behind 1 sub) places depth
+unfolding emit levels Scoped
+inside S =
+    at-end S 1 (S .rest) (subject-some S) (ap (drop 1) (S .begins)) (S .around) (S .wide) (S .placed) (S .well-formed) (S .scoped)
+    (omega (arith, S .deep))
 
 module _ {Γ : Context} {e a b : Term} {term sub places : List ℕ} {depth : ℕ} (S : Subject Γ e term sub places depth) where
   pub second : (from : ℕ) → Two 0 e a b → from ≡ 1 + size a → Subject Γ b term (behind from sub) places depth
@@ -182,9 +193,7 @@ pub between : {Γ : Context} {e : Term} {term places : List ℕ} {depth : ℕ} (
     → Subject Γ e term (behind from sub) places depth
     → n ≡ size e
     → take n (drop from sub) ≡ words e
-between {e} sub from n S x =
-    ap (take n) (sym (behind-drop from sub) ∙ S .begins ∙ emit-append e (S .rest))
-    ∙ take-at (words e) (S .rest) n (words-length e ∙ sym x)
+between {e} sub from n S x = begun-words e n (S .rest) (sym (behind-drop from sub) ∙ S .begins) x
 
 -- A subject by another name.
 pub renamed : {Γ : Context} {e e′ : Term} {term sub places : List ℕ} {depth : ℕ}

@@ -3,7 +3,6 @@
 use Prim.Native.Nat.{ℕ, zero, suc, _+_, _-_, _≤_, _<_}
 use mathlib.Core.List.{List, [], _∷_}
 use mathlib.Core.Path.{_≡_, refl, sym, ap, _∙_}
-use native.Mathlib.Decide.{decLe}
 use native.Mathlib.Nat.{le-of-suc-le-suc}
 use native.Mathlib.Omega.{arith}
 use lib.ListN.{length, drop, getD}
@@ -18,6 +17,7 @@ use Rattle.reduction.proofs.Scoping.{scoped-more}
 use Rattle.typing.specs.declared.inference.Inferred.{Inferred}
 use Rattle.typing.specs.Inference.{Subject, Placed, Annotation, Raises, Infers, refuses}
 use Rattle.typing.proofs.Passing.{found}
+use Rattle.typing.proofs.Putting.{within-or-over}
 use Rattle.typing.proofs.Raising.{raise-size}
 use Rattle.typing.proofs.Rooms.{subject-shallow}
 use Rattle.typing.proofs.Written.{written-type}
@@ -81,7 +81,12 @@ module _ {Γ : Context} {i : ℕ} {term sub places : List ℕ} {depth : ℕ} (S 
       → Raises (standing Γ i) i p L work top r after
       → Infers (infer L Γ p (var i)) (var i) places depth work top r after places
   unfolding infer size
-  infers-annotation {L} {p} {work} {top} {r} {after} room R = on (decLe (size (standing Γ i)) L)
+  infers-annotation {L} {p} {work} room R =
+      within-or-over (standing Γ i) L
+      (λ h.
+      found (ap (measure L p) same ∙ fitting {L = L} p type (omega (arith, long)))
+      (rw (R .fits h .0) (written-type work type refl (sym long) (R .fits h .1) (omega (arith, long)) refl refl refl)))
+      (λ h. rw (same, over {L = L} p type (omega (arith, long))) (refuses (R .over h)))
     where
       type : Term
       type = raise (suc i) 0 (standing Γ i)
@@ -91,9 +96,3 @@ module _ {Γ : Context} {i : ℕ} {term sub places : List ℕ} {depth : ℕ} (S 
 
       long : size type ≡ size (standing Γ i)
       long = raise-size (suc i) 0 (standing Γ i)
-
-      on : Dec (size (standing Γ i) ≤ L) → Infers (infer L Γ p (var i)) (var i) places depth work top r after places
-      on (yes h) =
-          found (ap (measure L p) same ∙ fitting {L = L} p type (omega (arith, long)))
-          (rw (R .fits h .0) (written-type work type refl (sym long) (R .fits h .1) (omega (arith, long)) refl refl refl))
-      on (no n) = rw (same, over {L = L} p type (omega (arith, long))) (refuses (R .over (omega arith)))

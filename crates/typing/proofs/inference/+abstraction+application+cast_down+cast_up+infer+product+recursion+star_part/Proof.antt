@@ -1,4 +1,5 @@
--- The cycle of calls that infers a type meets its contracts: each member's needs are answered in a module of its own.
+-- The cycle of calls that infers a type meets its contracts: every call in it lowers the caller's measure, so that a member may
+-- take its callees' contracts for granted. Each member's needs are answered in a module of its own.
 mod Measures
 mod Abstraction
 mod Application
@@ -22,4 +23,6 @@ use Rattle.typing.proofs.inference.+abstraction+application+cast_down+c
 
 pub +abstraction+application+cast-down+cast-up+infer+product+recursion+star-part-spec : {M : Type 1} → statement M
 +abstraction+application+cast-down+cast-up+infer+product+recursion+star-part-spec {M} =
-    close μ-abstraction μ-application μ-cast-down μ-cast-up μ-infer μ-product μ-recursion μ-star-part (abstraction-part M) (application-part M) (cast-down-part M) (cast-up-part M) (infer-part M) (product-part M) (recursion-part M) (star-part-part M)
+    close
+    μ-abstraction μ-application μ-cast-down μ-cast-up μ-infer μ-product μ-recursion μ-star-part (abstraction-part M)
+    (application-part M) (cast-down-part M) (cast-up-part M) (infer-part M) (product-part M) (recursion-part M) (star-part-part M)

@@ -1,11 +1,11 @@
 -- `put_in` meets its contract. The codomain is the words of a term, so that it has room in the local array; what rewriting then writes
 -- into the first words of the working slice is the substituted codomain.
-use Prim.Native.Nat.{_+_, _-_, _≤_}
+use Prim.Native.Nat.{_+_, _≤_}
 use mathlib.Core.Bool.{false}
 use mathlib.Core.Path.{_≡_, sym, subst}
 use native.Mathlib.Omega.{arith}
 use borrow.Author.Needs.{needs}
-use lib.ListN.{take, drop, replicate}
+use lib.ListN.{take, drop}
 use lib.Seq.{length-take-le}
 use Rattle.calculus.specs.Term.{substitute}
 use Rattle.calculus.specs.Words.{words, longest}
@@ -27,10 +27,7 @@ begins : (c : tie.After-copy)
     take (a .count) (c .copy .last .1 .0) ≡ take (a .count) (drop (a .from) (a .work .now))
 begins c =
     let s = c .before .before .before .before .before .before in
-    let a = s .args in
-    let few = short s in
-    let n = a .from + a .count - a .from in
-    copied (a .work .now) (replicate 1024 0) (a .from) (a .count) n (omega arith) (s .pre .1) (omega arith) (c .copy .ensures)
+    copied (s .args .work .now) (s .args .from) (s .args .count) (s .pre .1) (s .pre .2) (c .copy .ensures)
 
 array-share-prefix-codomain : tie.Need-array-share-prefix-codomain
 array-share-prefix-codomain c =

@@ -1,10 +1,10 @@
 -- `step_type` meets its contract. The type is the words of a term, so that it has room in the local array; its step is that of the
 -- copy.
-use Prim.Native.Nat.{_+_, _-_, _≤_}
+use Prim.Native.Nat.{_≤_}
 use mathlib.Core.Path.{_≡_, sym, _∙_, subst}
 use native.Mathlib.Omega.{arith}
 use borrow.Author.Needs.{needs}
-use lib.ListN.{take, drop, replicate}
+use lib.ListN.{take, drop}
 use lib.Seq.{length-take-le}
 use Rattle.calculus.specs.Words.{longest}
 use Rattle.reduction.specs.Stepping.{Codes}
@@ -22,10 +22,7 @@ begins : (c : tie.After-copy)
     take (a .count) (c .copy .last .1 .0) ≡ take (a .count) (drop (a .top) (a .work .now))
 begins c =
     let s = c .before .before .before .before .before in
-    let a = s .args in
-    let few = short s in
-    let n = a .top + a .count - a .top in
-    copied (a .work .now) (replicate 1024 0) (a .top) (a .count) n (omega arith) (s .pre .1) (omega arith) (c .copy .ensures)
+    copied (s .args .work .now) (s .args .top) (s .args .count) (s .pre .1) (s .pre .2) (c .copy .ensures)
 
 array-share-prefix-copied : tie.Need-array-share-prefix-copied
 array-share-prefix-copied c =

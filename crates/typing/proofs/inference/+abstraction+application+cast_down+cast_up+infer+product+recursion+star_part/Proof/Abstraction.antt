@@ -9,30 +9,23 @@ use borrow.Author.Needs.{needs}
 use lib.ListN.{take, drop, length-set}
 use Rattle.calculus.specs.Term.{size}
 use Rattle.typing.proofs.Nodes.{of-lam, two-levels}
-use Rattle.typing.proofs.Subjects.{behind-length, subject-some, subject-parts, first, place-first}
-use Rattle.typing.proofs.Rooms.{room-two, roomy-part, subject-shallow}
-use Rattle.typing.proofs.Passing.{found, passed, turned, typed}
+use Rattle.typing.proofs.Subjects.{subject-some, place-short, first, place-first}
+use Rattle.typing.proofs.Rooms.{room-two, subject-shallow}
+use Rattle.typing.proofs.Passing.{found, passed, turned}
 use Rattle.typing.proofs.Parts.{annotation-found, second-place, below}
 use Rattle.typing.proofs.Written.{wrote}
 use Rattle.typing.proofs.Products.{product-written}
 use Rattle.typing.proofs.Binding.{lam-annotation, lam-body, lam-over, lam-typed}
 use Rattle.typing.proofs.inference.abstraction.Reads as abstraction
 use Rattle.typing.proofs.inference.+abstraction+application+cast_down+cast_up+infer+product+recursion+star_part.Lts-abstraction as abstraction-lts
-use Rattle.typing.proofs.inference.+abstraction+application+cast_down+cast_up+infer+product+recursion+star_part.Proof.Measures.{abstraction-at, abstraction-claims}
-use Rattle.typing.proofs.inference.+abstraction+application+cast_down+cast_up+infer+product+recursion+star_part.Proof.Abstraction.Known.{reach, copied, skips, both, room}
+use Rattle.typing.proofs.inference.+abstraction+application+cast_down+cast_up+infer+product+recursion+star_part.Proof.Measures.{abstraction-at, abstraction-claims, part-asked}
+use Rattle.typing.proofs.inference.+abstraction+application+cast_down+cast_up+infer+product+recursion+star_part.Proof.Abstraction.Known.{start-place, annotation-place, typed-annotation, reach, copied, skips, both, lengths, long, room}
 
 star-part-requires : (t : ℕ) → abstraction-lts.Need-star-part-requires (abstraction-claims t) (abstraction-at t) abstraction.Post
 star-part-requires t c κs =
     let start = c .before .before .before .before .before .before in
-    let P = start .pre .1 in (
-      omega (arith, behind-length 1 (start .args .sub .now), subject-some (P .3)),
-      (
-        P .0,
-        P .1,
-        first (P .3) of-lam,
-        roomy-part (P .4) (two-levels (of-lam {e = P .2}) .0) refl (omega arith),
-      ),
-    )
+    let P = start .pre .1 in
+    part-asked 0 2 (omega arith) (start .pre .0) (P .3) (P .4) (first (P .3) of-lam) (two-levels of-lam .0) refl (omega arith)
 
 returns : (t : ℕ) → abstraction-lts.Need-returns (abstraction-claims t) (abstraction-at t) abstraction.Post
 returns t c Γ a e S =
@@ -40,17 +33,15 @@ returns t c Γ a e S =
     passed _ (after-star-part .star-part .ensures Γ a (first S of-lam)) (c .enum-told .given .1) (lam-annotation _ Γ _ _ a e (place-first S))
 
 narrow-requires : (t : ℕ) → abstraction-lts.Need-narrow-requires (abstraction-claims t) (abstraction-at t) abstraction.Post
-narrow-requires t c κs =
-    let start = c .before .before .before .before .before .before .before .before .before .before .before .before in
-    omega (arith, subject-some (start .pre .1 .3), start .pre .1 .3 .within, start .pre .1 .3 .short)
+narrow-requires t c κs = place-short (start-place t c .pre .1 .3)
 
 element-write-context : (t : ℕ) → abstraction-lts.Need-element-write-context (abstraction-claims t) (abstraction-at t) abstraction.Post
-element-write-context t c = omega (arith, subject-shallow (c .before .before .before .before .before .before .before .before .before .before .before .before .before .pre .1 .3))
+element-write-context t c = subject-shallow (start-place t (c .before) .pre .1 .3)
 
 add-infer-2 : (t : ℕ) → abstraction-lts.Need-add-infer-2 (abstraction-claims t) (abstraction-at t) abstraction.Post
 add-infer-2 t c =
     let joined1 = c .before .before .before .before in
-    let start = joined1 .before .before .before .before .before .before .before .before .before .before .before .before .before .before in
+    let start = start-place t (joined1 .before .before) in
     omega (arith, skips t joined1 .0, room-two (start .pre .1 .4), start .good .1 .1 .1 .1 .0 .0)
 
 infer-requires : (t : ℕ) → abstraction-lts.Need-infer-requires (abstraction-claims t) (abstraction-at t) abstraction.Post
@@ -58,39 +49,21 @@ infer-requires t c κs =
     let joined1 = c .before .before .before .before in
     let after-narrow = joined1 .before in
     let after-known-told = after-narrow .before in
-    let after-annotation = after-known-told .before in
-    let after-star-part = after-annotation .before .before .before .before in
-    let start = after-star-part .before .before .before .before .before .before .before in
+    let start = start-place t after-known-told in
     let P = start .pre .1 in
-    let A = typed (after-star-part .star-part .ensures (P .0) (P .1) (first (P .3) of-lam)) (after-annotation .annotation .given .1) in
-    let k = skips t joined1 .0 in (
-      omega (arith, behind-length (1 + after-annotation .annotation .given .0 .0) (start .args .sub .now), reach t after-known-told),
-      (
-        P .1 ∷ P .0,
-        P .2,
-        below (P .3) _ A (after-narrow .narrow .result) of-lam (after-narrow .narrow .ensures),
-        roomy-part (P .4) (two-levels (of-lam {a = P .1}) .1) (after-star-part .star-part .kept .1 .1 .1 .1 .0) (omega arith),
-      ),
-    )
+    let A = typed-annotation t after-known-told (P .0) (P .1) (P .2) (P .3) in
+    let E = below (P .3) _ A (after-narrow .narrow .result) of-lam (after-narrow .narrow .ensures) in
+    part-asked (after-known-told .before .annotation .given .0 .0) 1 (omega arith) (start .pre .0) (P .3) (P .4) E (two-levels of-lam .1)
+    (after-known-told .before .before .before .before .before .star-part .kept .1 .1 .1 .1 .0) (omega (arith, skips t joined1 .0))
 
 returns-2 : (t : ℕ) → abstraction-lts.Need-returns-2 (abstraction-claims t) (abstraction-at t) abstraction.Post
 returns-2 t c Γ a e S =
     let after-infer = c .before .before .before .before in
     let after-narrow = after-infer .before .before .before .before .before .before in
-    let after-annotation = after-narrow .before .before in
-    let after-star-part = after-annotation .before .before .before .before in
-    let A = typed (after-star-part .star-part .ensures Γ a (first S of-lam)) (after-annotation .annotation .given .1) in
+    let A = typed-annotation t (after-narrow .before) Γ a e S in
     passed _
     (after-infer .infer .ensures (a ∷ Γ) e (below S _ A (after-narrow .narrow .result) of-lam (after-narrow .narrow .ensures)))
     (c .enum-told2 .given .1) (lam-body _ Γ _ _ a e (annotation-found S _ A) (second-place S _ A (of-lam {e = e})))
-
-add-if2 : (t : ℕ) → abstraction-lts.Need-add-if2 (abstraction-claims t) (abstraction-at t) abstraction.Post
-add-if2 t c =
-    let after-known-told = c .before .before .before .before .before .before .before .before .before .before .before .before in
-    let start = after-known-told .before .before .before .before .before .before .before .before .before .before .before .before in
-    let P = start .pre .1 in
-    let B = both t c (P .0) (P .1) (P .2) (P .3) in
-    omega (arith, B .long, B .fits, P .4 .allowed, reach t after-known-told)
 
 returns-3 : (t : ℕ) → abstraction-lts.Need-returns-3 (abstraction-claims t) (abstraction-at t) abstraction.Post
 unfolding size
@@ -98,43 +71,15 @@ returns-3 t c Γ a e S =
     let B = both t (c .before .before) Γ a e S in
     turned (lam-over B (omega (arith, B .read, B .long, c .before .if2 .taken))) (c .refused .ensures)
 
-mul-work : (t : ℕ) → abstraction-lts.Need-mul-work (abstraction-claims t) (abstraction-at t) abstraction.Post
-mul-work t c =
-    let start = c .before .before .before .before .before .before .before .before .before .before .before .before .before .before .before .before .before .before .before .before .before .before .before .before .before in
-    let R = start .pre .1 .4 in omega (arith, R .some, room-two R, start .good .1 .1 .1 .1 .0 .1)
-
 part-copy-end : (t : ℕ) → abstraction-lts.Need-part-copy-end (abstraction-claims t) (abstraction-at t) abstraction.Post
-part-copy-end t c = omega (arith, reach t (c .before .before .before .before .before .before .before .before .before .before .before .before .before))
-
-add-copy : (t : ℕ) → abstraction-lts.Need-add-copy (abstraction-claims t) (abstraction-at t) abstraction.Post
-add-copy t c =
-    let start = c .before .before .before .before .before .before .before .before .before .before .before .before .before .before .before .before .before .before .before .before .before .before .before .before .before .before .before in
-    let R = start .pre .1 .4 in omega (arith, R .some, room-two R, start .good .1 .1 .1 .1 .0 .0)
-
-add-t16 : (t : ℕ) → abstraction-lts.Need-add-t16 (abstraction-claims t) (abstraction-at t) abstraction.Post
-add-t16 t c =
-    let after-known-told2 = c .before .before .before .before .before .before in
-    let after-known-told = after-known-told2 .before .before .before .before .before .before .before .before .before .before .before .before in
-    let start = after-known-told .before .before .before .before .before .before .before .before .before .before .before .before in
-    let P = start .pre .1 in
-    let B = both t after-known-told2 (P .0) (P .1) (P .2) (P .3) in
-    omega (arith, B .read, B .further, subject-parts (P .3) (of-lam {a = P .1} {e = P .2}), reach t after-known-told)
-
-add-t33 : (t : ℕ) → abstraction-lts.Need-add-t33 (abstraction-claims t) (abstraction-at t) abstraction.Post
-add-t33 t c =
-    let after-known-told2 = c .before .before .before .before .before .before in
-    let after-known-told = after-known-told2 .before .before .before .before .before .before .before .before .before .before .before .before in
-    let start = after-known-told .before .before .before .before .before .before .before .before .before .before .before .before in
-    let P = start .pre .1 in
-    let B = both t after-known-told2 (P .0) (P .1) (P .2) (P .3) in
-    omega (arith, B .long, B .fits, P .4 .allowed, reach t after-known-told)
+part-copy-end t c = omega (arith, reach t (annotation-place t (c .before)))
 
 same-length-4 : (t : ℕ) → abstraction-lts.Need-same-length-4 (abstraction-claims t) (abstraction-at t) abstraction.Post
 same-length-4 t c =
-    let after-infer = c .before .before .before .before .before .before .before .before .before .before .before in
-    let after-star-part = after-infer .before .before .before .before .before .before .before .before .before .before .before .before in
-    let start = after-star-part .before .before .before .before .before .before .before in
-    c .before .before .copy .kept .1 .0 ∙ length-set (after-infer .infer .last .1 .1 .1 .1 .0) (start .args .top) 5 ∙ after-infer .infer .kept .1 .1 .1 .1 .0 ∙ after-star-part .star-part .kept .1 .1 .1 .1 .0
+    let after-known-told2 = c .before .before .before .before .before .before in
+    let start = start-place t (annotation-place t after-known-told2) in
+    c .before .before .copy .kept .1 .0 ∙ length-set (after-known-told2 .before .before .before .before .before .infer .last .1 .1 .1 .1 .0) (start .args .top) 5
+    ∙ long t after-known-told2
 
 returns-4 : (t : ℕ) → abstraction-lts.Need-returns-4 (abstraction-claims t) (abstraction-at t) abstraction.Post
 unfolding size
@@ -145,7 +90,7 @@ returns-4 t c Γ a e S =
     let after-infer = after-body .before .before .before .before in
     let joined1 = after-infer .before .before .before .before .before in
     let after-known-told = joined1 .before .before in
-    let start = after-known-told .before .before .before .before .before .before .before .before .before .before .before .before in
+    let start = start-place t after-known-told in
     let B = both t after-known-told2 Γ a e S in
     let r = room t after-known-told2 in
     let k = skips t joined1 .1 (omega (arith, else2 .if2 .left)) in
@@ -167,7 +112,10 @@ abstraction-part M t =
     (λ c. search needs) (element-write-context t) (λ c. omega (arith, reach t (c .before)))
     (λ c. omega (arith, reach t (c .before .before))) (λ c. omega (arith, reach t (c .before .before)))
     (λ c. omega (arith, reach t (c .before .before))) (λ c. search needs) (λ c. search needs) (add-infer-2 t) (infer-requires t)
-    (λ c. search needs) (λ c. search needs) (λ c. search needs) (returns-2 t) (add-if2 t) (λ c κs. search needs) (λ c. search needs)
-    (returns-3 t) (mul-work t) (λ c. omega (arith, room t (c .before))) (λ c. search needs) (λ c. search needs) (part-copy-end t)
-    (add-copy t) (λ c κs. simp length-set (omega (arith, room t (c .before .before .before)))) (add-t16 t) (add-t33 t)
-    (same-length-4 t) (returns-4 t)
+    (λ c. search needs) (λ c. search needs) (λ c. search needs) (returns-2 t) (λ c. omega (arith, lengths t c))
+    (λ c κs. search needs) (λ c. search needs) (returns-3 t) (λ c. omega (arith, room t (c .before)))
+    (λ c. omega (arith, room t (c .before))) (λ c. search needs) (λ c. search needs) (part-copy-end t)
+    (λ c. omega (arith, room t (c .before .before .before)))
+    (λ c κs. simp length-set (omega (arith, room t (c .before .before .before))))
+    (λ c. omega (arith, lengths t (c .before .before .before .before .before .before)))
+    (λ c. omega (arith, lengths t (c .before .before .before .before .before .before))) (same-length-4 t) (returns-4 t)

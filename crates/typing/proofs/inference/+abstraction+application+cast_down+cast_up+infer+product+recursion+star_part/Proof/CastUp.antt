@@ -1,7 +1,7 @@
 -- `cast_up` meets its contract. The annotation and the body are subjects one word and one part further on; the annotation, which the
 -- words have, is stepped to behind the body's type and compared with it there.
 mod Known
-use Prim.Native.Nat.{ℕ, _+_, _≤_}
+use Prim.Native.Nat.{ℕ, _≤_}
 use mathlib.Core.Path.{refl, _∙_}
 use native.Mathlib.Omega.{arith}
 use borrow.Author.Needs.{needs}
@@ -11,31 +11,24 @@ use Rattle.calculus.specs.Term.{size}
 use Rattle.calculus.specs.Step.{step}
 use Rattle.calculus.proofs.Testing.{fitting, over}
 use Rattle.typing.proofs.Nodes.{of-castup, two-levels}
-use Rattle.typing.proofs.Subjects.{behind-length, subject-some, subject-parts, first, place-first}
-use Rattle.typing.proofs.Rooms.{roomy-part, subject-codes}
-use Rattle.typing.proofs.Passing.{found, passed, turned, typed}
-use Rattle.typing.proofs.Parts.{annotation-found, second-place, beside}
+use Rattle.typing.proofs.Subjects.{subject-some, first, place-first}
+use Rattle.typing.proofs.Rooms.{subject-codes}
+use Rattle.typing.proofs.Passing.{found, passed, turned}
+use Rattle.typing.proofs.Parts.{annotation-found, second-place, beside, both-reach}
 use Rattle.typing.proofs.Moved.{moved-front, over-limit, rests}
 use Rattle.typing.proofs.Written.{wrote, written-type}
 use Rattle.typing.proofs.Casting.{up-annotation, up-body, up-rests, up-step-over, up-other, up-measured}
 use Rattle.typing.proofs.Compared.{longer}
 use Rattle.typing.proofs.inference.cast_up.Reads as cast-up
 use Rattle.typing.proofs.inference.+abstraction+application+cast_down+cast_up+infer+product+recursion+star_part.Lts-cast_up as cast-up-lts
-use Rattle.typing.proofs.inference.+abstraction+application+cast_down+cast_up+infer+product+recursion+star_part.Proof.Measures.{cast-up-at, cast-up-claims}
-use Rattle.typing.proofs.inference.+abstraction+application+cast_down+cast_up+infer+product+recursion+star_part.Proof.CastUp.Known.{reach, copied, both, room, next-state, compared}
+use Rattle.typing.proofs.inference.+abstraction+application+cast_down+cast_up+infer+product+recursion+star_part.Proof.Measures.{cast-up-at, cast-up-claims, part-asked}
+use Rattle.typing.proofs.inference.+abstraction+application+cast_down+cast_up+infer+product+recursion+star_part.Proof.CastUp.Known.{start-place, annotation-place, typed-annotation, reach, copied, both, long, room, next-state, compared}
 
 star-part-requires : (t : ℕ) → cast-up-lts.Need-star-part-requires (cast-up-claims t) (cast-up-at t) cast-up.Post
 star-part-requires t c κs =
     let start = c .before .before .before .before .before .before in
-    let P = start .pre .1 in (
-      omega (arith, behind-length 1 (start .args .sub .now), subject-some (P .3)),
-      (
-        P .0,
-        P .1,
-        first (P .3) of-castup,
-        roomy-part (P .4) (two-levels (of-castup {e = P .2}) .0) refl (omega arith),
-      ),
-    )
+    let P = start .pre .1 in
+    part-asked 0 2 (omega arith) (start .pre .0) (P .3) (P .4) (first (P .3) of-castup) (two-levels of-castup .0) refl (omega arith)
 
 returns : (t : ℕ) → cast-up-lts.Need-returns (cast-up-claims t) (cast-up-at t) cast-up.Post
 returns t c Γ a e S =
@@ -44,43 +37,27 @@ returns t c Γ a e S =
 
 infer-requires : (t : ℕ) → cast-up-lts.Need-infer-requires (cast-up-claims t) (cast-up-at t) cast-up.Post
 infer-requires t c κs =
-    let after-annotation = c .before .before .before .before in
-    let after-star-part = after-annotation .before .before .before .before in
-    let start = after-star-part .before .before .before .before .before .before .before in
+    let after-known-told = c .before .before .before in
+    let start = start-place t after-known-told in
     let P = start .pre .1 in
-    let A = typed (after-star-part .star-part .ensures (P .0) (P .1) (first (P .3) of-castup)) (after-annotation .annotation .given .1) in (
-      omega (arith, behind-length (1 + after-annotation .annotation .given .0 .0) (start .args .sub .now), reach t (c .before .before .before)),
-      (
-        P .0,
-        P .2,
-        beside (P .3) _ A of-castup,
-        roomy-part (P .4) (two-levels (of-castup {a = P .1}) .1) (after-star-part .star-part .kept .1 .1 .1 .1 .0) (omega arith),
-      ),
-    )
+    let E = beside (P .3) _ (typed-annotation t after-known-told (P .0) (P .1) (P .2) (P .3)) of-castup in
+    part-asked (after-known-told .before .annotation .given .0 .0) 1 (omega arith) (start .pre .0) (P .3) (P .4) E
+    (two-levels of-castup .1) (after-known-told .before .before .before .before .before .star-part .kept .1 .1 .1 .1 .0) (omega arith)
 
 returns-2 : (t : ℕ) → cast-up-lts.Need-returns-2 (cast-up-claims t) (cast-up-at t) cast-up.Post
 returns-2 t c Γ a e S =
     let after-infer = c .before .before .before .before in
-    let after-annotation = after-infer .before .before .before .before .before in
-    let after-star-part = after-annotation .before .before .before .before in
-    let A = typed (after-star-part .star-part .ensures Γ a (first S of-castup)) (after-annotation .annotation .given .1) in
+    let A = typed-annotation t (after-infer .before .before .before .before) Γ a e S in
     passed _ (after-infer .infer .ensures Γ e (beside S _ A of-castup)) (c .enum-told2 .given .1)
     (up-body _ Γ _ _ a e (annotation-found S _ A) (second-place S _ A (of-castup {e = e})))
 
-add-next : (t : ℕ) → cast-up-lts.Need-add-next (cast-up-claims t) (cast-up-at t) cast-up.Post
-add-next t c =
-    let after-infer = c .before .before .before .before .before in
-    let after-star-part = after-infer .before .before .before .before .before .before .before .before .before in
-    let start = after-star-part .before .before .before .before .before .before .before in
-    omega (arith, room t c, start .good .1 .1 .1 .1 .0 .0, after-star-part .star-part .kept .1 .1 .1 .1 .0, after-infer .infer .kept .1 .1 .1 .1 .0)
-
 part-step-into-end : (t : ℕ) → cast-up-lts.Need-part-step-into-end (cast-up-claims t) (cast-up-at t) cast-up.Post
-part-step-into-end t c = omega (arith, reach t (c .before .before .before .before .before .before .before .before .before))
+part-step-into-end t c = omega (arith, reach t (annotation-place t c))
 
 step-into-requires : (t : ℕ) → cast-up-lts.Need-step-into-requires (cast-up-claims t) (cast-up-at t) cast-up.Post
 step-into-requires t c κs =
-    let after-known-told = c .before .before .before .before .before .before .before .before .before .before .before in
-    let start = after-known-told .before .before .before .before .before .before .before .before .before .before .before .before in
+    let after-known-told = annotation-place t (c .before .before) in
+    let start = start-place t after-known-told in
     let P = start .pre .1 in
     let F = first (P .3) of-castup in
     let r = room t (c .before .before) in
@@ -90,7 +67,7 @@ returns-3 : (t : ℕ) → cast-up-lts.Need-returns-3 (cast-up-claims t) (cast-up
 returns-3 t c Γ a e S =
     let after-step-into = c .before .before .before .before in
     let after-known-told2 = after-step-into .before .before .before in
-    let after-known-told = after-known-told2 .before .before .before .before .before .before .before .before .before in
+    let after-known-told = annotation-place t after-known-told2 in
     let m = after-step-into .step-into .ensures a (copied t after-known-told Γ a e S) in
     turned (up-rests (both t after-known-told2 Γ a e S) (rests _ _ _ _ _ _ (step a) m (c .before .match3 .keys1))) (c .refused .ensures)
 
@@ -98,7 +75,7 @@ returns-4 : (t : ℕ) → cast-up-lts.Need-returns-4 (cast-up-claims t) (cast-up
 returns-4 t c Γ a e S =
     let after-step-into = c .before .before .before .before .before in
     let after-known-told2 = after-step-into .before .before .before in
-    let after-known-told = after-known-told2 .before .before .before .before .before .before .before .before .before in
+    let after-known-told = annotation-place t after-known-told2 in
     let m = after-step-into .step-into .ensures a (copied t after-known-told Γ a e S) in
     let o = over-limit _ _ _ _ _ (step a) m (c .before .enum-told3 .given .1) in
     turned (up-step-over (both t after-known-told2 Γ a e S) (o .0) (o .1) (o .2)) (c .refused2 .ensures)
@@ -113,10 +90,7 @@ returns-5 t c Γ a e S =
 same-requires : (t : ℕ) → cast-up-lts.Need-same-requires (cast-up-claims t) (cast-up-at t) cast-up.Post
 same-requires t c κs =
     let after-step-into = c .before .before .before .before .before .before .before in
-    let after-known-told2 = after-step-into .before .before .before in
-    let r = room t after-known-told2 in
-    let k = after-step-into .step-into .kept .1 .1 .0 in
-    (omega arith, omega arith)
+    omega (arith, room t (after-step-into .before .before .before), after-step-into .step-into .kept .1 .1 .0)
 
 returns-6 : (t : ℕ) → cast-up-lts.Need-returns-6 (cast-up-claims t) (cast-up-at t) cast-up.Post
 returns-6 t c Γ a e S =
@@ -137,31 +111,26 @@ returns-7 t c Γ a e S =
     (c .refused5 .ensures)
 
 part-copy-end : (t : ℕ) → cast-up-lts.Need-part-copy-end (cast-up-claims t) (cast-up-at t) cast-up.Post
-part-copy-end t c = omega (arith, reach t (c .before .before .before .before .before .before .before .before .before .before .before .before .before .before .before .before .before .before .before .before .before .before))
+part-copy-end t c = omega (arith, reach t (annotation-place t (c .before .before .before .before .before .before .before .before .before .before .before .before .before)))
 
 copy-requires : (t : ℕ) → cast-up-lts.Need-copy-requires (cast-up-claims t) (cast-up-at t) cast-up.Post
 copy-requires t c κs =
     let after-step-into = c .before .before .before .before .before .before .before .before .before .before .before .before in
-    let after-known-told2 = after-step-into .before .before .before in
-    let r = room t after-known-told2 in
-    let k = after-step-into .step-into .kept .1 .1 .0 in
-    omega arith
+    omega (arith, room t (after-step-into .before .before .before), after-step-into .step-into .kept .1 .1 .0)
 
 add-t19 : (t : ℕ) → cast-up-lts.Need-add-t19 (cast-up-claims t) (cast-up-at t) cast-up.Post
 add-t19 t c =
     let after-known-told2 = c .before .before .before .before .before .before .before .before .before .before .before .before .before .before .before .before .before .before in
-    let after-known-told = after-known-told2 .before .before .before .before .before .before .before .before .before in
-    let start = after-known-told .before .before .before .before .before .before .before .before .before .before .before .before in
+    let after-known-told = annotation-place t after-known-told2 in
+    let start = start-place t after-known-told in
     let P = start .pre .1 in
     let B = both t after-known-told2 (P .0) (P .1) (P .2) (P .3) in
-    omega (arith, B .read, B .further, subject-parts (P .3) (of-castup {a = P .1} {e = P .2}), reach t after-known-told)
+    omega (arith, both-reach (P .3) of-castup B)
 
 same-length-8 : (t : ℕ) → cast-up-lts.Need-same-length-8 (cast-up-claims t) (cast-up-at t) cast-up.Post
 same-length-8 t c =
     let after-step-into = c .before .before .before .before .before .before .before .before .before .before .before .before .before .before .before in
-    let after-infer = after-step-into .before .before .before .before .before .before .before .before in
-    let after-star-part = after-infer .before .before .before .before .before .before .before .before .before in
-    c .before .before .copy .kept .1 .0 ∙ after-step-into .step-into .kept .1 .1 .0 ∙ after-infer .infer .kept .1 .1 .1 .1 .0 ∙ after-star-part .star-part .kept .1 .1 .1 .1 .0
+    c .before .before .copy .kept .1 .0 ∙ after-step-into .step-into .kept .1 .1 .0 ∙ long t (after-step-into .before .before .before)
 
 returns-8 : (t : ℕ) → cast-up-lts.Need-returns-8 (cast-up-claims t) (cast-up-at t) cast-up.Post
 unfolding size
@@ -172,8 +141,8 @@ returns-8 t c Γ a e S =
     let after-known-told3 = after-same .before .before .before in
     let after-step-into = after-known-told3 .before .before .before .before .before in
     let after-known-told2 = after-step-into .before .before .before in
-    let after-known-told = after-known-told2 .before .before .before .before .before .before .before .before .before in
-    let start = after-known-told .before .before .before .before .before .before .before .before .before .before .before .before in
+    let after-known-told = annotation-place t after-known-told2 in
+    let start = start-place t after-known-told in
     let B = both t after-known-told2 Γ a e S in
     let m = next-state t after-known-told3 Γ a e S in
     let r = room t after-known-told2 in
@@ -192,9 +161,9 @@ cast-up-part M t =
     (λ c. omega (arith, subject-some (c .before .before .before .pre .1 .3))) (λ c. search needs) (star-part-requires t)
     (λ c. search needs) (λ c. search needs) (λ c. search needs) (returns t) (λ c. omega (arith, reach t c))
     (λ c. omega (arith, reach t c)) (λ c. omega (arith, reach t c)) (λ c. omega (arith, reach t c)) (λ c. search needs)
-    (infer-requires t) (λ c. search needs) (λ c. search needs) (λ c. search needs) (returns-2 t) (add-next t) (λ c. search needs)
-    (λ c. search needs) (part-step-into-end t) (step-into-requires t) (λ c κs. search needs) (λ c. search needs) (returns-3 t)
-    (λ c. search needs) (λ c κs. search needs) (λ c. search needs) (returns-4 t) (λ c. search needs) (λ c κs. search needs)
-    (λ c. search needs) (returns-5 t) (same-requires t) (λ c κs. search needs) (λ c. search needs) (returns-6 t)
-    (λ c κs. search needs) (λ c. search needs) (returns-7 t) (λ c. search needs) (λ c. search needs) (part-copy-end t)
-    (copy-requires t) (add-t19 t) (same-length-8 t) (returns-8 t)
+    (infer-requires t) (λ c. search needs) (λ c. search needs) (λ c. search needs) (returns-2 t) (λ c. omega (arith, room t c))
+    (λ c. search needs) (λ c. search needs) (part-step-into-end t) (step-into-requires t) (λ c κs. search needs)
+    (λ c. search needs) (returns-3 t) (λ c. search needs) (λ c κs. search needs) (λ c. search needs) (returns-4 t)
+    (λ c. search needs) (λ c κs. search needs) (λ c. search needs) (returns-5 t) (same-requires t) (λ c κs. search needs)
+    (λ c. search needs) (returns-6 t) (λ c κs. search needs) (λ c. search needs) (returns-7 t) (λ c. search needs)
+    (λ c. search needs) (part-copy-end t) (copy-requires t) (add-t19 t) (same-length-8 t) (returns-8 t)

@@ -1,17 +1,18 @@
 -- `infer` meets its contract: the first word says which node it is, so that the node's own function is asked for what the contract
 -- says; star and variables are typed here.
-use Prim.Native.Nat.{ℕ, _-_}
-use mathlib.Core.Path.{_≡_, refl, sym, ap, _∙_}
+use Prim.Native.Nat.{ℕ, _+_, _-_, _*_, _<_}
+use mathlib.Core.List.{List}
+use mathlib.Core.Path.{_≡_, refl, ap, _∙_}
 use native.Mathlib.Omega.{arith}
-use lib.ListN.{getD}
+use lib.ListN.{length, getD}
 use borrow.Author.Needs.{needs}
-use Rattle.calculus.specs.Term.{Term, var, star, size}
+use Rattle.calculus.specs.Term.{Term, var, star, app, lam, pi, castup, mu, size}
 use Rattle.calculus.specs.Words.{emit, words}
 use Rattle.calculus.specs.Rules.{Context}
 use Rattle.calculus.specs.Infer as calculus
 use Rattle.calculus.proofs.Testing.{fitting}
-use Rattle.term.specs.Word.{meaning-of}
-use Rattle.typing.specs.Inference.{Subject}
+use Rattle.typing.specs.declared.inference.Inferred.{Inferred}
+use Rattle.typing.specs.Inference.{Subject, Roomy, Infers}
 use Rattle.typing.proofs.Heads.{Headed, subject-headed}
 use Rattle.typing.proofs.Passing.{found}
 use Rattle.typing.proofs.Rooms.{room-two, roomy-renamed}
@@ -22,19 +23,36 @@ use Rattle.typing.proofs.inference.infer.Reads as infer
 use Rattle.typing.proofs.inference.+abstraction+application+cast_down+cast_up+infer+product+recursion+star_part.Lts-infer as infer-lts
 use Rattle.typing.proofs.inference.+abstraction+application+cast_down+cast_up+infer+product+recursion+star_part.Proof.Measures.{infer-at, infer-claims}
 
+-- A node of two parts, which `K` makes: its own function is asked for what `infer` was asked for, and answers it.
+module _ (K : Term → Term → Term) {Γ : Context} {e : Term} {term sub places : List ℕ} {depth : ℕ}
+    (S : Subject Γ e term sub places depth) (node : (a : Term) × (b : Term) × (e ≡ K a b)) where
+  asked : {work : List ℕ} {top limit t : ℕ}
+      → Roomy e work top limit
+      → 3 * length sub + 1 ≡ t
+      → (3 * length sub < t)
+      × ((Δ : Context) × (a : Term) × (b : Term) × Subject Δ (K a b) term sub places depth × Roomy (K a b) work top limit)
+  asked R words = (omega arith, (Γ, node .0, node .1, renamed S (node .2), roomy-renamed R (node .2)))
+
+  answered : (L p : ℕ) {work : List ℕ} {top : ℕ} {r : Inferred} {after places′ : List ℕ}
+      → ((a b : Term) → Subject Γ (K a b) term sub places depth → Infers (calculus.infer L Γ p (K a b)) (K a b) places depth work top r after places′)
+      → Infers (calculus.infer L Γ p e) e places depth work top r after places′
+  answered L p f = rw (node .2) (f (node .0) (node .1) (renamed S (node .2)))
+
 -- The subterm is the variable that its word says.
 is-variable : (t : ℕ) (c : infer-lts.After-known-told (infer-claims t) (infer-at t) infer.Post) {Γ : Context} {e : Term}
-    → Subject Γ e (c .before .before .before .before .before .before .before .before .args .term .now) (c .before .before .before .before .before .before .before .before .args .sub .now) (c .before .before .before .before .before .before .before .before .args .context .now) (c .before .before .before .before .before .before .before .before .args .depth)
+    → let start = c .before .before .before .before .before .before .before .before in
+    Subject Γ e (start .args .term .now) (start .args .sub .now) (start .args .context .now) (start .args .depth)
     → e ≡ var (c .before .index .given .0 .0)
 unfolding Headed
-is-variable t c S = subject-headed S (ap meaning-of (sym (c .before .index .given .1)) ∙ c .before .before .before .classify .ensures)
+is-variable t c S = subject-headed S (c .before .index .given .1) (c .before .before .before .classify .ensures)
 
 -- Its annotation stands at the place that was read.
 annotation-at : (t : ℕ) (c : infer-lts.After-wide2 (infer-claims t) (infer-at t) infer.Post)
-    → c .wide2 .result ≡ getD (c .before .before .before .before .before .before .before .before .before .before .before .args .context .now) (c .before .before .before .before .before .before .before .before .before .before .before .args .depth - 1 - c .before .before .before .before .index .given .0 .0) 0
+    → let start = c .before .before .before .before .before .before .before .before .before .before .before in
+    c .wide2 .result ≡ getD (start .args .context .now) (start .args .depth - 1 - c .before .before .before .before .index .given .0 .0) 0
 annotation-at t c =
-    c .wide2 .ensures
-    ∙ ap (λ k. getD (c .before .before .before .before .before .before .before .before .before .before .before .args .context .now) (c .before .before .before .before .before .before .before .before .before .before .before .args .depth - 1 - k) 0) (c .before .before .wide .ensures)
+    let start = c .before .before .before .before .before .before .before .before .before .before .before in
+    c .wide2 .ensures ∙ ap (λ k. getD (start .args .context .now) (start .args .depth - 1 - k) 0) (c .before .before .wide .ensures)
 
 sub-binder : (t : ℕ) → infer-lts.Need-sub-binder (infer-claims t) (infer-at t) infer.Post
 sub-binder t c =
@@ -61,39 +79,39 @@ unfolding Headed
 application-requires t c κs =
     let start = c .before .before .before .before .before .before .before .before .before in
     let S = start .pre .1 .2 in
-    let node = subject-headed S (ap meaning-of (sym (c .before .before .enum-told2 .given .1)) ∙ c .before .before .before .before .classify .ensures) in
-    (omega (arith, start .pre .0), (_, node .0, node .1, renamed S (node .2), roomy-renamed (start .pre .1 .3) (node .2)))
+    let node = subject-headed S (c .before .before .enum-told2 .given .1) (c .before .before .before .before .classify .ensures) in
+    asked app S node (start .pre .1 .3) (start .pre .0)
 
 abstraction-requires : (t : ℕ) → infer-lts.Need-abstraction-requires (infer-claims t) (infer-at t) infer.Post
 unfolding Headed
 abstraction-requires t c κs =
     let start = c .before .before .before .before .before .before .before .before .before in
     let S = start .pre .1 .2 in
-    let node = subject-headed S (ap meaning-of (sym (c .before .before .enum-told3 .given .1)) ∙ c .before .before .before .before .classify .ensures) in
-    (omega (arith, start .pre .0), (_, node .0, node .1, renamed S (node .2), roomy-renamed (start .pre .1 .3) (node .2)))
+    let node = subject-headed S (c .before .before .enum-told3 .given .1) (c .before .before .before .before .classify .ensures) in
+    asked lam S node (start .pre .1 .3) (start .pre .0)
 
 product-requires : (t : ℕ) → infer-lts.Need-product-requires (infer-claims t) (infer-at t) infer.Post
 unfolding Headed
 product-requires t c κs =
     let start = c .before .before .before .before .before .before .before .before .before in
     let S = start .pre .1 .2 in
-    let node = subject-headed S (ap meaning-of (sym (c .before .before .enum-told4 .given .1)) ∙ c .before .before .before .before .classify .ensures) in
-    (omega (arith, start .pre .0), (_, node .0, node .1, renamed S (node .2), roomy-renamed (start .pre .1 .3) (node .2)))
+    let node = subject-headed S (c .before .before .enum-told4 .given .1) (c .before .before .before .before .classify .ensures) in
+    asked pi S node (start .pre .1 .3) (start .pre .0)
 
 cast-up-requires : (t : ℕ) → infer-lts.Need-cast-up-requires (infer-claims t) (infer-at t) infer.Post
 unfolding Headed
 cast-up-requires t c κs =
     let start = c .before .before .before .before .before .before .before .before .before in
     let S = start .pre .1 .2 in
-    let node = subject-headed S (ap meaning-of (sym (c .before .before .enum-told5 .given .1)) ∙ c .before .before .before .before .classify .ensures) in
-    (omega (arith, start .pre .0), (_, node .0, node .1, renamed S (node .2), roomy-renamed (start .pre .1 .3) (node .2)))
+    let node = subject-headed S (c .before .before .enum-told5 .given .1) (c .before .before .before .before .classify .ensures) in
+    asked castup S node (start .pre .1 .3) (start .pre .0)
 
 cast-down-requires : (t : ℕ) → infer-lts.Need-cast-down-requires (infer-claims t) (infer-at t) infer.Post
 unfolding Headed
 cast-down-requires t c κs =
     let start = c .before .before .before .before .before .before .before .before .before in
     let S = start .pre .1 .2 in
-    let node = subject-headed S (ap meaning-of (sym (c .before .before .enum-told6 .given .1)) ∙ c .before .before .before .before .classify .ensures) in
+    let node = subject-headed S (c .before .before .enum-told6 .given .1) (c .before .before .before .before .classify .ensures) in
     (omega (arith, start .pre .0), (_, node .0, renamed S (node .1), roomy-renamed (start .pre .1 .3) (node .1)))
 
 recursion-requires : (t : ℕ) → infer-lts.Need-recursion-requires (infer-claims t) (infer-at t) infer.Post
@@ -101,8 +119,8 @@ unfolding Headed
 recursion-requires t c κs =
     let start = c .before .before .before .before .before .before .before .before .before in
     let S = start .pre .1 .2 in
-    let node = subject-headed S (ap meaning-of (sym (c .before .before .enum-told7 .given .1)) ∙ c .before .before .before .before .classify .ensures) in
-    (omega (arith, start .pre .0), (_, node .0, node .1, renamed S (node .2), roomy-renamed (start .pre .1 .3) (node .2)))
+    let node = subject-headed S (c .before .before .enum-told7 .given .1) (c .before .before .before .before .classify .ensures) in
+    asked mu S node (start .pre .1 .3) (start .pre .0)
 
 returns : (t : ℕ) → infer-lts.Need-returns (infer-claims t) (infer-at t) infer.Post
 unfolding Headed calculus.infer size words emit
@@ -110,7 +128,7 @@ returns t c Γ e S =
     let start = c .before .before .before .before .before .before .before in
     let R = start .pre .1 .3 in
     rw
-    (subject-headed S (ap meaning-of (sym (c .enum-told .given .1)) ∙ c .before .before .classify .ensures))
+    (subject-headed S (c .enum-told .given .1) (c .before .before .classify .ensures))
     (found
     (fitting _ star (R .some))
     (written-type (start .args .work .now) star refl refl refl (omega (arith, room-two R, R .some)) refl refl refl))
@@ -128,42 +146,42 @@ returns-2 t c Γ e S =
 returns-3 : (t : ℕ) → infer-lts.Need-returns-3 (infer-claims t) (infer-at t) infer.Post
 unfolding Headed
 returns-3 t c Γ e S =
-    let node = subject-headed S (ap meaning-of (sym (c .before .before .before .before .before .enum-told2 .given .1)) ∙ c .before .before .before .before .before .before .before .classify .ensures) in
-    rw (node .2) (c .before .before .application .ensures Γ (node .0) (node .1) (renamed S (node .2)))
+    let node = subject-headed S (c .before .before .before .before .before .enum-told2 .given .1) (c .before .before .before .before .before .before .before .classify .ensures) in
+    answered app S node _ _ (c .before .before .application .ensures Γ)
 
 returns-4 : (t : ℕ) → infer-lts.Need-returns-4 (infer-claims t) (infer-at t) infer.Post
 unfolding Headed
 returns-4 t c Γ e S =
-    let node = subject-headed S (ap meaning-of (sym (c .before .before .before .before .before .enum-told3 .given .1)) ∙ c .before .before .before .before .before .before .before .classify .ensures) in
-    rw (node .2) (c .before .before .abstraction .ensures Γ (node .0) (node .1) (renamed S (node .2)))
+    let node = subject-headed S (c .before .before .before .before .before .enum-told3 .given .1) (c .before .before .before .before .before .before .before .classify .ensures) in
+    answered lam S node _ _ (c .before .before .abstraction .ensures Γ)
 
 returns-5 : (t : ℕ) → infer-lts.Need-returns-5 (infer-claims t) (infer-at t) infer.Post
 unfolding Headed
 returns-5 t c Γ e S =
-    let node = subject-headed S (ap meaning-of (sym (c .before .before .before .before .before .enum-told4 .given .1)) ∙ c .before .before .before .before .before .before .before .classify .ensures) in
-    rw (node .2) (c .before .before .product .ensures Γ (node .0) (node .1) (renamed S (node .2)))
+    let node = subject-headed S (c .before .before .before .before .before .enum-told4 .given .1) (c .before .before .before .before .before .before .before .classify .ensures) in
+    answered pi S node _ _ (c .before .before .product .ensures Γ)
 
 returns-6 : (t : ℕ) → infer-lts.Need-returns-6 (infer-claims t) (infer-at t) infer.Post
 unfolding Headed
 returns-6 t c Γ e S =
-    let node = subject-headed S (ap meaning-of (sym (c .before .before .before .before .before .enum-told5 .given .1)) ∙ c .before .before .before .before .before .before .before .classify .ensures) in
-    rw (node .2) (c .before .before .cast-up .ensures Γ (node .0) (node .1) (renamed S (node .2)))
+    let node = subject-headed S (c .before .before .before .before .before .enum-told5 .given .1) (c .before .before .before .before .before .before .before .classify .ensures) in
+    answered castup S node _ _ (c .before .before .cast-up .ensures Γ)
 
 returns-7 : (t : ℕ) → infer-lts.Need-returns-7 (infer-claims t) (infer-at t) infer.Post
 unfolding Headed
 returns-7 t c Γ e S =
-    let node = subject-headed S (ap meaning-of (sym (c .before .before .before .before .before .enum-told6 .given .1)) ∙ c .before .before .before .before .before .before .before .classify .ensures) in
+    let node = subject-headed S (c .before .before .before .before .before .enum-told6 .given .1) (c .before .before .before .before .before .before .before .classify .ensures) in
     rw (node .1) (c .before .before .cast-down .ensures Γ (node .0) (renamed S (node .1)))
 
 returns-8 : (t : ℕ) → infer-lts.Need-returns-8 (infer-claims t) (infer-at t) infer.Post
 unfolding Headed
 returns-8 t c Γ e S =
-    let node = subject-headed S (ap meaning-of (sym (c .before .before .before .before .before .enum-told7 .given .1)) ∙ c .before .before .before .before .before .before .before .classify .ensures) in
-    rw (node .2) (c .before .before .recursion .ensures Γ (node .0) (node .1) (renamed S (node .2)))
+    let node = subject-headed S (c .before .before .before .before .before .enum-told7 .given .1) (c .before .before .before .before .before .before .before .classify .ensures) in
+    answered mu S node _ _ (c .before .before .recursion .ensures Γ)
 
 returns-9 : (t : ℕ) → infer-lts.Need-returns-9 (infer-claims t) (infer-at t) infer.Post
 unfolding Headed
-returns-9 t c Γ e S = absurd (subject-headed S (ap meaning-of (sym (c .before .enum-told8 .given .1)) ∙ c .before .before .before .classify .ensures))
+returns-9 t c Γ e S = absurd (subject-headed S (c .before .enum-told8 .given .1) (c .before .before .before .classify .ensures))
 
 pub infer-part : (M : Type 1) (t : ℕ) → infer-lts.Closed (infer-claims t) (infer-at t) infer.Post M
 infer-part M t =

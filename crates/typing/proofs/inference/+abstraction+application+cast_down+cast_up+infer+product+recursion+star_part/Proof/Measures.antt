@@ -1,10 +1,20 @@
 -- The measures of the cycle of calls, and what each member is handed for its callees. A node's function is called on the words that
--- `infer` has, and calls `infer` and `star_part` on strictly fewer; `star_part` calls `infer` on the same words. So with three for
--- each word the node's functions have 0 more, `infer` 1 and `star_part` 2.
-use Prim.Native.Nat.{ℕ, _+_, _*_, _<_}
+-- `infer` has, and calls `infer` and `star_part` on strictly fewer, since a part begins behind the node's first word; `star_part`
+-- calls `infer` on the same words. So with three for each word the node's functions have 0 more, `infer` 1 and `star_part` 2.
+use Prim.Native.Nat.{ℕ, _+_, _*_, _≤_, _<_}
+use mathlib.Core.List.{List}
+use mathlib.Core.Path.{_≡_}
+use native.Mathlib.Omega.{arith}
 use lib.ListN.{length}
+use borrow.Fn.Kind.{PK}
 use borrow.Fn.Kinds.{In}
 use borrow.Fn.PlainCycle.{Measures, is, falls, and}
+use Rattle.calculus.specs.Term.{Term}
+use Rattle.calculus.specs.Words.{levels}
+use Rattle.calculus.specs.Rules.{Context}
+use Rattle.typing.specs.Inference.{Subject, Roomy}
+use Rattle.typing.proofs.Subjects.{behind, behind-length, subject-some}
+use Rattle.typing.proofs.Rooms.{roomy-part}
 use Rattle.typing.proofs.inference.abstraction.Reads as abstraction
 use Rattle.typing.proofs.inference.abstraction.Kinds as abstraction-kinds
 use Rattle.typing.proofs.inference.+abstraction+application+cast_down+cast_up+infer+product+recursion+star_part.Lts-abstraction as abstraction-lts
@@ -66,53 +76,60 @@ abbrev pub μ-recursion : Measures 4 recursion-kinds.ps ℕ
 abbrev pub μ-star-part : Measures 4 star-part-kinds.ps ℕ
 μ-star-part κs a = 3 * length (a .1 .0 .now) + 2
 
+-- What is required of a member at the measure `t`, as it is proved, and below `t`, as it is called.
+abbrev pub at-measure : (ps : List (PK 4)) → Measures 4 ps ℕ → In 4 ps → ℕ → In 4 ps
+at-measure ps μ pre t = and 4 ps (is 4 ps μ t) pre
+
+abbrev pub below-measure : (ps : List (PK 4)) → Measures 4 ps ℕ → In 4 ps → ℕ → In 4 ps
+below-measure ps μ pre t = and 4 ps (falls 4 ps _<_ μ t) pre
+
 abbrev pub abstraction-at : ℕ → In 4 abstraction-kinds.ps
-abstraction-at t = and 4 abstraction-kinds.ps (is 4 abstraction-kinds.ps μ-abstraction t) abstraction.Pre
+abstraction-at = at-measure abstraction-kinds.ps μ-abstraction abstraction.Pre
 
 abbrev pub abstraction-below : ℕ → In 4 abstraction-kinds.ps
-abstraction-below t = and 4 abstraction-kinds.ps (falls 4 abstraction-kinds.ps _<_ μ-abstraction t) abstraction.Pre
+abstraction-below = below-measure abstraction-kinds.ps μ-abstraction abstraction.Pre
 
 abbrev pub application-at : ℕ → In 4 application-kinds.ps
-application-at t = and 4 application-kinds.ps (is 4 application-kinds.ps μ-application t) application.Pre
+application-at = at-measure application-kinds.ps μ-application application.Pre
 
 abbrev pub application-below : ℕ → In 4 application-kinds.ps
-application-below t = and 4 application-kinds.ps (falls 4 application-kinds.ps _<_ μ-application t) application.Pre
+application-below = below-measure application-kinds.ps μ-application application.Pre
 
 abbrev pub cast-down-at : ℕ → In 4 cast-down-kinds.ps
-cast-down-at t = and 4 cast-down-kinds.ps (is 4 cast-down-kinds.ps μ-cast-down t) cast-down.Pre
+cast-down-at = at-measure cast-down-kinds.ps μ-cast-down cast-down.Pre
 
 abbrev pub cast-down-below : ℕ → In 4 cast-down-kinds.ps
-cast-down-below t = and 4 cast-down-kinds.ps (falls 4 cast-down-kinds.ps _<_ μ-cast-down t) cast-down.Pre
+cast-down-below = below-measure cast-down-kinds.ps μ-cast-down cast-down.Pre
 
 abbrev pub cast-up-at : ℕ → In 4 cast-up-kinds.ps
-cast-up-at t = and 4 cast-up-kinds.ps (is 4 cast-up-kinds.ps μ-cast-up t) cast-up.Pre
+cast-up-at = at-measure cast-up-kinds.ps μ-cast-up cast-up.Pre
 
 abbrev pub cast-up-below : ℕ → In 4 cast-up-kinds.ps
-cast-up-below t = and 4 cast-up-kinds.ps (falls 4 cast-up-kinds.ps _<_ μ-cast-up t) cast-up.Pre
+cast-up-below = below-measure cast-up-kinds.ps μ-cast-up cast-up.Pre
 
 abbrev pub infer-at : ℕ → In 4 infer-kinds.ps
-infer-at t = and 4 infer-kinds.ps (is 4 infer-kinds.ps μ-infer t) infer.Pre
+infer-at = at-measure infer-kinds.ps μ-infer infer.Pre
 
 abbrev pub infer-below : ℕ → In 4 infer-kinds.ps
-infer-below t = and 4 infer-kinds.ps (falls 4 infer-kinds.ps _<_ μ-infer t) infer.Pre
+infer-below = below-measure infer-kinds.ps μ-infer infer.Pre
 
 abbrev pub product-at : ℕ → In 4 product-kinds.ps
-product-at t = and 4 product-kinds.ps (is 4 product-kinds.ps μ-product t) product.Pre
+product-at = at-measure product-kinds.ps μ-product product.Pre
 
 abbrev pub product-below : ℕ → In 4 product-kinds.ps
-product-below t = and 4 product-kinds.ps (falls 4 product-kinds.ps _<_ μ-product t) product.Pre
+product-below = below-measure product-kinds.ps μ-product product.Pre
 
 abbrev pub recursion-at : ℕ → In 4 recursion-kinds.ps
-recursion-at t = and 4 recursion-kinds.ps (is 4 recursion-kinds.ps μ-recursion t) recursion.Pre
+recursion-at = at-measure recursion-kinds.ps μ-recursion recursion.Pre
 
 abbrev pub recursion-below : ℕ → In 4 recursion-kinds.ps
-recursion-below t = and 4 recursion-kinds.ps (falls 4 recursion-kinds.ps _<_ μ-recursion t) recursion.Pre
+recursion-below = below-measure recursion-kinds.ps μ-recursion recursion.Pre
 
 abbrev pub star-part-at : ℕ → In 4 star-part-kinds.ps
-star-part-at t = and 4 star-part-kinds.ps (is 4 star-part-kinds.ps μ-star-part t) star-part.Pre
+star-part-at = at-measure star-part-kinds.ps μ-star-part star-part.Pre
 
 abbrev pub star-part-below : ℕ → In 4 star-part-kinds.ps
-star-part-below t = and 4 star-part-kinds.ps (falls 4 star-part-kinds.ps _<_ μ-star-part t) star-part.Pre
+star-part-below = below-measure star-part-kinds.ps μ-star-part star-part.Pre
 
 abbrev pub abstraction-claims : ℕ → abstraction-lts.Claims
 abstraction-claims t = (star-part-below t, star-part.Post, narrow-reads.Asked, narrow-reads.Learnt, infer-below t, infer.Post, refused-reads.Asked, refused-reads.Learnt, copy-reads.Asked, copy-reads.Learnt)
@@ -137,3 +154,19 @@ recursion-claims t = (star-part-below t, star-part.Post, narrow-reads.Asked, nar
 
 abbrev pub star-part-claims : ℕ → star-part-lts.Claims
 star-part-claims t = (infer-below t, infer.Post, classify-reads.Asked, classify-reads.Learnt, refused-reads.Asked, refused-reads.Learnt)
+
+-- What a node asks for a part `d` of it that stands behind the first word and `n` others: fewer words, by the measure of `infer` or
+-- of `star_part`, the part as a subject, and its room.
+pub part-asked : {Γ Δ : Context} {e d : Term} {term sub places places′ : List ℕ} {depth depth′ : ℕ} {work work′ : List ℕ} {top top′ limit t : ℕ} (n more : ℕ)
+    → more ≤ 2
+    → 3 * length sub ≡ t
+    → Subject Γ e term sub places depth
+    → Roomy e work top limit
+    → Subject Δ d term (behind (1 + n) sub) places′ depth′
+    → levels d < levels e
+    → length work′ ≡ length work
+    → top′ ≤ top + limit
+    → (3 * length (behind (1 + n) sub) + more < t)
+    × ((Θ : Context) × (a : Term) × Subject Θ a term (behind (1 + n) sub) places′ depth′ × Roomy a work′ top′ limit)
+part-asked {sub} n more few words S R D deep long fits =
+    (omega (arith, behind-length (1 + n) sub, subject-some S), (_, _, D, roomy-part R deep long fits))

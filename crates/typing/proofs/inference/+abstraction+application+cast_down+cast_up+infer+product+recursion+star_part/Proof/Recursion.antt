@@ -13,10 +13,10 @@ use Rattle.calculus.specs.Term.{size, raise}
 use Rattle.calculus.specs.Words.{words}
 use Rattle.reduction.proofs.Stores.{take-sets}
 use Rattle.typing.proofs.Nodes.{of-mu, two-levels}
-use Rattle.typing.proofs.Subjects.{behind-length, subject-some, subject-parts, first, place-first}
-use Rattle.typing.proofs.Rooms.{roomy-part, subject-shallow, subject-codes}
-use Rattle.typing.proofs.Passing.{found, passed, turned, typed}
-use Rattle.typing.proofs.Parts.{annotation-found, second-place, below}
+use Rattle.typing.proofs.Subjects.{subject-some, place-short, first, place-first}
+use Rattle.typing.proofs.Rooms.{subject-shallow, subject-codes}
+use Rattle.typing.proofs.Passing.{found, passed, turned}
+use Rattle.typing.proofs.Parts.{annotation-found, second-place, below, both-reach}
 use Rattle.typing.proofs.Coded.{codes-whole, codes-short, codes-plain}
 use Rattle.typing.proofs.Raising.{raise-size}
 use Rattle.typing.proofs.Written.{wrote, written-type}
@@ -24,21 +24,14 @@ use Rattle.typing.proofs.Compared.{longer}
 use Rattle.typing.proofs.Binding.{mu-annotation, mu-body, mu-other, mu-typed}
 use Rattle.typing.proofs.inference.recursion.Reads as recursion
 use Rattle.typing.proofs.inference.+abstraction+application+cast_down+cast_up+infer+product+recursion+star_part.Lts-recursion as recursion-lts
-use Rattle.typing.proofs.inference.+abstraction+application+cast_down+cast_up+infer+product+recursion+star_part.Proof.Measures.{recursion-at, recursion-claims}
-use Rattle.typing.proofs.inference.+abstraction+application+cast_down+cast_up+infer+product+recursion+star_part.Proof.Recursion.Known.{reach, copied, both, room, behind-type, compared}
+use Rattle.typing.proofs.inference.+abstraction+application+cast_down+cast_up+infer+product+recursion+star_part.Proof.Measures.{recursion-at, recursion-claims, part-asked}
+use Rattle.typing.proofs.inference.+abstraction+application+cast_down+cast_up+infer+product+recursion+star_part.Proof.Recursion.Known.{start-place, annotation-place, typed-annotation, reach, copied, both, long, room, behind-type, compared}
 
 star-part-requires : (t : ℕ) → recursion-lts.Need-star-part-requires (recursion-claims t) (recursion-at t) recursion.Post
 star-part-requires t c κs =
     let start = c .before .before .before .before .before .before in
-    let P = start .pre .1 in (
-      omega (arith, behind-length 1 (start .args .sub .now), subject-some (P .3)),
-      (
-        P .0,
-        P .1,
-        first (P .3) of-mu,
-        roomy-part (P .4) (two-levels (of-mu {e = P .2}) .0) refl (omega arith),
-      ),
-    )
+    let P = start .pre .1 in
+    part-asked 0 2 (omega arith) (start .pre .0) (P .3) (P .4) (first (P .3) of-mu) (two-levels of-mu .0) refl (omega arith)
 
 returns : (t : ℕ) → recursion-lts.Need-returns (recursion-claims t) (recursion-at t) recursion.Post
 returns t c Γ a e S =
@@ -46,37 +39,27 @@ returns t c Γ a e S =
     passed _ (after-star-part .star-part .ensures Γ a (first S of-mu)) (c .enum-told .given .1) (mu-annotation _ Γ _ _ a e (place-first S))
 
 narrow-requires : (t : ℕ) → recursion-lts.Need-narrow-requires (recursion-claims t) (recursion-at t) recursion.Post
-narrow-requires t c κs =
-    let start = c .before .before .before .before .before .before .before .before .before .before .before .before in
-    omega (arith, subject-some (start .pre .1 .3), start .pre .1 .3 .within, start .pre .1 .3 .short)
+narrow-requires t c κs = place-short (start-place t c .pre .1 .3)
 
 element-write-context : (t : ℕ) → recursion-lts.Need-element-write-context (recursion-claims t) (recursion-at t) recursion.Post
-element-write-context t c = omega (arith, subject-shallow (c .before .before .before .before .before .before .before .before .before .before .before .before .before .pre .1 .3))
+element-write-context t c = subject-shallow (start-place t (c .before) .pre .1 .3)
 
 infer-requires : (t : ℕ) → recursion-lts.Need-infer-requires (recursion-claims t) (recursion-at t) recursion.Post
 infer-requires t c κs =
-    let after-known-told = c .before .before .before .before in
-    let after-annotation = after-known-told .before in
-    let after-star-part = after-annotation .before .before .before .before in
-    let start = after-star-part .before .before .before .before .before .before .before in
+    let after-narrow = c .before .before .before in
+    let after-known-told = after-narrow .before in
+    let start = start-place t after-known-told in
     let P = start .pre .1 in
-    let A = typed (after-star-part .star-part .ensures (P .0) (P .1) (first (P .3) of-mu)) (after-annotation .annotation .given .1) in (
-      omega (arith, behind-length (1 + after-annotation .annotation .given .0 .0) (start .args .sub .now), reach t after-known-told),
-      (
-        P .1 ∷ P .0,
-        P .2,
-        below (P .3) _ A (c .before .before .before .narrow .result) of-mu (c .before .before .before .narrow .ensures),
-        roomy-part (P .4) (two-levels (of-mu {a = P .1}) .1) (after-star-part .star-part .kept .1 .1 .1 .1 .0) (omega arith),
-      ),
-    )
+    let A = typed-annotation t after-known-told (P .0) (P .1) (P .2) (P .3) in
+    let E = below (P .3) _ A (after-narrow .narrow .result) of-mu (after-narrow .narrow .ensures) in
+    part-asked (after-known-told .before .annotation .given .0 .0) 1 (omega arith) (start .pre .0) (P .3) (P .4) E (two-levels of-mu .1)
+    (after-known-told .before .before .before .before .before .star-part .kept .1 .1 .1 .1 .0) (omega arith)
 
 returns-2 : (t : ℕ) → recursion-lts.Need-returns-2 (recursion-claims t) (recursion-at t) recursion.Post
 returns-2 t c Γ a e S =
     let after-infer = c .before .before .before .before in
     let after-narrow = after-infer .before .before .before .before in
-    let after-annotation = after-narrow .before .before in
-    let after-star-part = after-annotation .before .before .before .before in
-    let A = typed (after-star-part .star-part .ensures Γ a (first S of-mu)) (after-annotation .annotation .given .1) in
+    let A = typed-annotation t (after-narrow .before) Γ a e S in
     passed _
     (after-infer .infer .ensures (a ∷ Γ) e (below S _ A (after-narrow .narrow .result) of-mu (after-narrow .narrow .ensures)))
     (c .enum-told2 .given .1) (mu-body _ Γ _ _ a e (annotation-found S _ A) (second-place S _ A (of-mu {e = e})))
@@ -86,20 +69,13 @@ returns-3 t c Γ a e S =
     let B = both t (c .before .before) Γ a e S in
     turned (mu-other B (longer (B .type) (raise 1 0 a) (B .long) (B .read ∙ sym (raise-size 1 0 a)) (c .before .if1 .taken))) (c .refused .ensures)
 
-add-next : (t : ℕ) → recursion-lts.Need-add-next (recursion-claims t) (recursion-at t) recursion.Post
-add-next t c =
-    let after-infer = c .before .before .before .before .before .before in
-    let after-star-part = after-infer .before .before .before .before .before .before .before .before .before .before in
-    let start = after-star-part .before .before .before .before .before .before .before in
-    omega (arith, room t (c .before), start .good .1 .1 .1 .1 .0 .0, after-star-part .star-part .kept .1 .1 .1 .1 .0, after-infer .infer .kept .1 .1 .1 .1 .0)
-
 part-raise-end : (t : ℕ) → recursion-lts.Need-part-raise-end (recursion-claims t) (recursion-at t) recursion.Post
-part-raise-end t c = omega (arith, reach t (c .before .before .before .before .before .before .before .before .before .before .before))
+part-raise-end t c = omega (arith, reach t (annotation-place t (c .before)))
 
 raise-requires : (t : ℕ) → recursion-lts.Need-raise-requires (recursion-claims t) (recursion-at t) recursion.Post
 raise-requires t c κs =
-    let after-known-told = c .before .before .before .before .before .before .before .before .before .before .before .before .before in
-    let start = after-known-told .before .before .before .before .before .before .before .before .before .before .before .before in
+    let after-known-told = annotation-place t (c .before .before .before) in
+    let start = start-place t after-known-told in
     let P = start .pre .1 in
     let own = copied t after-known-told (P .0) (P .1) (P .2) (P .3) in
     let K = subject-codes (first (P .3) of-mu) (eqb (start .args .depth) 0) own (eqb-true (start .args .depth) 0) in
@@ -108,10 +84,8 @@ raise-requires t c κs =
 
 same-requires : (t : ℕ) → recursion-lts.Need-same-requires (recursion-claims t) (recursion-at t) recursion.Post
 same-requires t c κs =
-    let after-known-told2 = c .before .before .before .before .before .before .before in
-    let r = room t after-known-told2 in
-    let k = c .before .before .before .raise .kept .1 .1 .0 in
-    (omega arith, omega arith)
+    let after-raise = c .before .before .before in
+    omega (arith, room t (after-raise .before .before .before .before), after-raise .raise .kept .1 .1 .0)
 
 returns-4 : (t : ℕ) → recursion-lts.Need-returns-4 (recursion-claims t) (recursion-at t) recursion.Post
 returns-4 t c Γ a e S =
@@ -120,31 +94,26 @@ returns-4 t c Γ a e S =
     turned (mu-other B (λ x. compared t (c .before .before) Γ a e S .0 (c .before .if2 .taken) (sym x))) (c .refused2 .ensures)
 
 part-copy-end : (t : ℕ) → recursion-lts.Need-part-copy-end (recursion-claims t) (recursion-at t) recursion.Post
-part-copy-end t c = omega (arith, reach t (c .before .before .before .before .before .before .before .before .before .before .before .before .before .before .before .before .before .before .before))
+part-copy-end t c = omega (arith, reach t (annotation-place t (c .before .before .before .before .before .before .before .before .before)))
 
 copy-requires : (t : ℕ) → recursion-lts.Need-copy-requires (recursion-claims t) (recursion-at t) recursion.Post
 copy-requires t c κs =
     let after-raise = c .before .before .before .before .before .before .before in
-    let after-known-told2 = after-raise .before .before .before .before in
-    let r = room t after-known-told2 in
-    let k = after-raise .raise .kept .1 .1 .0 in
-    omega arith
+    omega (arith, room t (after-raise .before .before .before .before), after-raise .raise .kept .1 .1 .0)
 
 add-t31 : (t : ℕ) → recursion-lts.Need-add-t31 (recursion-claims t) (recursion-at t) recursion.Post
 add-t31 t c =
     let after-known-told2 = c .before .before .before .before .before .before .before .before .before .before .before .before .before .before in
-    let after-known-told = after-known-told2 .before .before .before .before .before .before .before .before .before .before in
-    let start = after-known-told .before .before .before .before .before .before .before .before .before .before .before .before in
+    let after-known-told = annotation-place t after-known-told2 in
+    let start = start-place t after-known-told in
     let P = start .pre .1 in
     let B = both t after-known-told2 (P .0) (P .1) (P .2) (P .3) in
-    omega (arith, B .read, B .further, subject-parts (P .3) (of-mu {a = P .1} {e = P .2}), reach t after-known-told)
+    omega (arith, both-reach (P .3) of-mu B)
 
 same-length-5 : (t : ℕ) → recursion-lts.Need-same-length-5 (recursion-claims t) (recursion-at t) recursion.Post
 same-length-5 t c =
     let after-raise = c .before .before .before .before .before .before .before .before .before .before in
-    let after-infer = after-raise .before .before .before .before .before .before .before .before .before in
-    let after-star-part = after-infer .before .before .before .before .before .before .before .before .before .before in
-    c .before .before .copy .kept .1 .0 ∙ after-raise .raise .kept .1 .1 .0 ∙ after-infer .infer .kept .1 .1 .1 .1 .0 ∙ after-star-part .star-part .kept .1 .1 .1 .1 .0
+    c .before .before .copy .kept .1 .0 ∙ after-raise .raise .kept .1 .1 .0 ∙ long t (after-raise .before .before .before .before)
 
 returns-5 : (t : ℕ) → recursion-lts.Need-returns-5 (recursion-claims t) (recursion-at t) recursion.Post
 unfolding size
@@ -157,7 +126,7 @@ returns-5 t c Γ a e S =
     let after-body = after-known-told2 .before in
     let after-infer = after-body .before .before .before .before in
     let after-known-told = after-infer .before .before .before .before .before in
-    let start = after-known-told .before .before .before .before .before .before .before .before .before .before .before .before in
+    let start = start-place t after-known-told in
     let B = both t after-known-told2 Γ a e S in
     let r = room t after-known-told2 in
     let long = else1 .if1 .left in
@@ -182,6 +151,7 @@ recursion-part M t =
     (λ c. search needs) (element-write-context t) (λ c. omega (arith, reach t (c .before)))
     (λ c. omega (arith, reach t (c .before))) (λ c. omega (arith, reach t (c .before))) (λ c. omega (arith, reach t (c .before)))
     (λ c. search needs) (λ c. search needs) (infer-requires t) (λ c. search needs) (λ c. search needs) (λ c. search needs)
-    (returns-2 t) (λ c κs. search needs) (λ c. search needs) (returns-3 t) (add-next t) (λ c. search needs) (λ c. search needs)
-    (part-raise-end t) (raise-requires t) (same-requires t) (λ c κs. search needs) (λ c. search needs) (returns-4 t)
-    (λ c. search needs) (λ c. search needs) (part-copy-end t) (copy-requires t) (add-t31 t) (same-length-5 t) (returns-5 t)
+    (returns-2 t) (λ c κs. search needs) (λ c. search needs) (returns-3 t) (λ c. omega (arith, room t (c .before)))
+    (λ c. search needs) (λ c. search needs) (part-raise-end t) (raise-requires t) (same-requires t) (λ c κs. search needs)
+    (λ c. search needs) (returns-4 t) (λ c. search needs) (λ c. search needs) (part-copy-end t) (copy-requires t) (add-t31 t)
+    (same-length-5 t) (returns-5 t)

@@ -2,14 +2,14 @@
 use Prim.Native.Nat.{ℕ}
 use mathlib.Core.List.{List}
 use mathlib.Core.Logic.{_≢_}
-use mathlib.Core.Path.{_≡_, refl, sym, ap, subst, _∙_}
+use mathlib.Core.Path.{_≡_, refl, sym, ap, _∙_}
 use native.Mathlib.Omega.{arith}
 use lib.ListN.{getD}
 use borrow.Author.Needs.{needs}
-use Rattle.calculus.specs.Term.{Term, star, size}
+use Rattle.calculus.specs.Term.{Term, star}
 use Rattle.calculus.specs.Answer as reason
 use Rattle.calculus.specs.Answer.{refused, _>>=_, _>>_, require}
-use Rattle.calculus.specs.Words.{words}
+use Rattle.calculus.specs.Words.{emit, words}
 use Rattle.calculus.specs.Reading.{meaning, a-star}
 use Rattle.calculus.specs.Rules.{Context}
 use Rattle.calculus.specs.Infer.{infer}
@@ -19,9 +19,7 @@ use Rattle.typing.specs.declared.inference.Inferred.{Inferred}
 use Rattle.typing.specs.declared.inference.Inferred.the-variants as inferred
 use Rattle.typing.specs.Inference.{Subject, Infers, star-typed}
 use Rattle.typing.proofs.Passing.{Part, lying, passed, typed, turned, found}
-use Rattle.typing.proofs.Rooms.{deeper-scoped}
-use Rattle.typing.proofs.Types.{type-scoped}
-use Rattle.typing.proofs.Heads.{Headed, not-star, lying-star, lying-headed}
+use Rattle.typing.proofs.Heads.{Headed, not-star, type-headed, type-meaning}
 use Rattle.typing.proofs.inference.star_part.Reads as star-part
 use Rattle.typing.proofs.inference.+abstraction+application+cast_down+cast_up+infer+product+recursion+star_part.Lts-star_part as star-part-lts
 use Rattle.typing.proofs.inference.+abstraction+application+cast_down+cast_up+infer+product+recursion+star_part.Proof.Measures.{star-part-at, star-part-claims}
@@ -34,7 +32,7 @@ starred : (L p : ℕ) {Γ : Context} {e : Term} {term sub places : List ℕ} {de
     → a-star ≡ meaning (getD after top 0)
     → Infers (star-typed L Γ p e) e places depth work top r after places′
 unfolding star-typed _>>=_ _>>_ require Headed
-starred L p {top} {m} {after} S part q w =
+starred L p S part q w =
     found
     (rw (part .found, x, equal star) refl)
     (record {
@@ -46,18 +44,15 @@ starred L p {top} {m} {after} S part q w =
     })
   where
     x : part .type ≡ star
-    x =
-        subst (λ k. Headed k (part .type)) (sym w)
-        (lying-headed (part .type) m top after (part .lies) (part .long) (deeper-scoped S (part .type) (type-scoped S L p (part .found))))
+    x = type-headed L p S part w
 
 -- A type whose first word is not that of star.
 unstarred : (L : ℕ) (Γ : Context) (p : ℕ) {e : Term} {places : List ℕ} {depth : ℕ} {work : List ℕ} {top n m : ℕ} {after places′ : List ℕ}
     → Part (infer L Γ p e) e places depth work top n m after places′
     → meaning (getD after top 0) ≢ a-star
     → star-typed L Γ p e ≡ refused reason.not-star p
-unfolding star-typed _>>=_ _>>_ require
-unstarred L Γ p {top} {m} {after} part n =
-    rw (part .found, unequal λ x. n (lying-star m top after (part .lies ∙ ap words x) (part .long ∙ ap size x))) refl
+unfolding star-typed _>>=_ _>>_ require words emit meaning
+unstarred L Γ p part n = rw (part .found, unequal λ x. n (type-meaning part x)) refl
 
 infer-requires : (t : ℕ) → star-part-lts.Need-infer-requires (star-part-claims t) (star-part-at t) star-part.Post
 infer-requires t c κs =
@@ -72,15 +67,16 @@ returns t c Γ e S =
 returns-2 : (t : ℕ) → star-part-lts.Need-returns-2 (star-part-claims t) (star-part-at t) star-part.Post
 returns-2 t c Γ e S =
     let classify = c .before .before .classify in
+    let part = typed (c .before .before .before .before .before .before .before .before .infer .ensures Γ e S) (c .before .before .before .before .enum-told .given .1) in
     turned
-    (unstarred _ Γ _ (typed (c .before .before .before .before .before .before .before .before .infer .ensures Γ e S) (c .before .before .before .before .enum-told .given .1)) λ x.
-    not-star (classify .result) (c .before .match2 .keys2) (classify .ensures ∙ x))
+    (unstarred _ Γ _ part λ x. not-star (classify .result) (c .before .match2 .keys2) (classify .ensures ∙ x))
     (c .refused .ensures)
 
 returns-3 : (t : ℕ) → star-part-lts.Need-returns-3 (star-part-claims t) (star-part-at t) star-part.Post
 returns-3 t c Γ e S =
     let q = c .before .before .before .before .enum-told .given .1 in
-    starred _ _ S (typed (c .before .before .before .before .before .before .before .before .infer .ensures Γ e S) q) q (ap meaning-of (sym (c .enum-told3 .given .1)) ∙ c .before .before .classify .ensures)
+    let part = typed (c .before .before .before .before .before .before .before .before .infer .ensures Γ e S) q in
+    starred _ _ S part q (ap meaning-of (sym (c .enum-told3 .given .1)) ∙ c .before .before .classify .ensures)
 
 pub star-part-part : (M : Type 1) (t : ℕ) → star-part-lts.Closed (star-part-claims t) (star-part-at t) star-part.Post M
 star-part-part M t =
