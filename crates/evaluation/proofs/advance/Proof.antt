@@ -24,16 +24,14 @@ use Rattle.evaluation.proofs.advance.Tie as tie
 
 -- The copy holds the state too.
 copy-holds : (c : tie.After-copy) (x : Term)
-    → Holds (now (c .before .before .before .before .before .args .work)) (c .before .before .before .before .before .args .count) x
-    → Holds (c .copy .last .1 .0) (c .before .before .before .before .before .args .count) x
+    → let a = c .before .before .before .before .before .args in
+    Holds (now (a .work)) (a .count) x → Holds (c .copy .last .1 .0) (a .count) x
 copy-holds c x h = copied-held (c .copy .ensures) (h .front) (omega arith)
 
 -- Behind the state it is as it was.
 copy-begun : (c : tie.After-copy)
-    → c .copy .last .1 .0
-    ≡ begun
-    (take (c .before .before .before .before .before .args .count) (now (c .before .before .before .before .before .args .work)))
-    (now (c .before .before .before .before .before .args .copied))
+    → let a = c .before .before .before .before .before .args in
+    c .copy .last .1 .0 ≡ begun (take (a .count) (now (a .work))) (now (a .copied))
 copy-begun c =
     let (x, h) = c .before .before .before .before .before .pre .2 in
     writes-begun (c .copy .ensures) (omega (arith, spells-length (h .front), h .front .extent, h .front .short))
@@ -45,11 +43,9 @@ room c =
     c .step .kept .1 .1 .0 ∙ length-take-le longest (now (start .args .work)) (start .pre .0)
 
 steps : (c : tie.After-step) (x : Term)
-    → Holds (now (c .before .before .before .before .before .before .before .before .before .before .args .work))
-    (c .before .before .before .before .before .before .before .before .before .before .args .count) x
-    → Steps (calculus.step x)
-    (take longest (now (c .before .before .before .before .before .before .before .before .before .before .args .work)))
-    (c .step .result) (c .step .last .1 .1 .0)
+    → let a = c .before .before .before .before .before .before .before .before .before .before .args in
+    Holds (now (a .work)) (a .count) x
+    → Steps (calculus.step x) (take longest (now (a .work))) (c .step .result) (c .step .last .1 .1 .0)
 steps c x h = c .step .ensures x (copy-holds (c .before .before .before .before .before) x h .front .coded)
 
 slice-aggregate-step : tie.Need-slice-aggregate-step

@@ -31,7 +31,8 @@ abbrev μ-loop : tie.MeasureT-loop
 
 -- The working slice at the loop's head is behind the room for a state as it was at the start.
 behind : (c : tie.At-loop Inv-loop μ-loop)
-    → drop longest (c .loop .work) ≡ drop longest (now (c .before .before .before .before .before .before .before .args .work))
+    → let start = c .before .before .before .before .before .before .before in
+    drop longest (c .loop .work) ≡ drop longest (now (start .args .work))
 behind c =
     let start = c .before .before .before .before .before .before .before in
     let (t, e, r) = start .pre .1 in
@@ -42,25 +43,23 @@ behind c =
 module _ (c : tie.After-advance Inv-loop μ-loop) (t : Term)
     (e : now (c .before .before .before .before .before .before .before .before .before .before .before .args .term) ≡ words t)
     (r : Readable t) where
-  reached : Reaches
-      (c .before .before .before .before .before .before .before .before .before .before .before .args .grant)
-      (c .before .before .before .before .loop .taken) t (c .before .before .before .before .loop .work)
-      (c .before .before .before .before .loop .count)
+  reached : let loop = c .before .before .before .before in
+      let start = loop .before .before .before .before .before .before .before in
+      Reaches (start .args .grant) (loop .loop .taken) t (loop .loop .work) (loop .loop .count)
   reached = c .before .before .before .before .loop .inv .4 t e r
 
-  advances : Advances
-      (calculus.step (reached .state)) (c .before .before .before .before .loop .work)
-      (c .before .before .before .before .loop .count) (reached .state) (c .advance .result) (c .advance .last .0)
+  advances : let loop = c .before .before .before .before in
+      Advances (calculus.step (reached .state)) (loop .loop .work) (loop .loop .count) (reached .state) (c .advance .result)
+      (c .advance .last .0)
   advances = c .advance .ensures .0 (reached .state) (reached .holds)
 
   stops : {s : Stepped} {E : End}
       → Stops s E
       → c .advance .result ≡ s
-      → Performs
-      (run-from (c .before .before .before .before .before .before .before .before .before .before .before .args .grant) t)
-      (now (c .before .before .before .before .before .before .before .before .before .before .before .args .work))
-      (record { end = E; steps = c .before .before .before .before .loop .taken; length = c .before .before .before .before .loop .count })
-      (c .advance .last .0)
+      → let loop = c .before .before .before .before in
+      let start = loop .before .before .before .before .before .before .before in
+      Performs (run-from (start .args .grant) t) (now (start .args .work))
+      (record { end = E; steps = loop .loop .taken; length = loop .loop .count }) (c .advance .last .0)
   stops o told =
       performs-stop reached (omega arith) (c .advance .result) (c .advance .last .0) advances o told
       (behind (c .before .before .before .before))

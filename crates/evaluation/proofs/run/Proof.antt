@@ -22,40 +22,29 @@ use Rattle.evaluation.proofs.run.Tie as tie
 
 -- What is read.
 term-read : (c : tie.After-enum-told)
-    → (t : Term)
-    × (now (c .before .before .before .before .before .before .before .before .args .term) ≡ words t)
-    × Readable t
+    → let a = c .before .before .before .before .before .before .before .before .args in
+    (t : Term) × (now (a .term) ≡ words t) × Readable t
 term-read c =
-    reads-term (now (c .before .before .before .before .before .before .before .before .args .term))
-    (sym (c .before .before .read .ensures) ∙ ap reading-of (c .enum-told .given .1))
+    let read = c .before .before in
+    let a = read .before .before .before .before .before .before .args in
+    reads-term (now (a .term)) (sym (read .read .ensures) ∙ ap reading-of (c .enum-told .given .1))
 
 -- The grant.
 granted : (c : tie.Joined3)
-    → c .if3 .grant
-    ≡ min
-    (c .before .before .before .before .before .before .before .before .before .before .args .budget)
-    (c .before .before .before .before .before .before .before .before .before .before .args .desk .allowance)
+    → let a = c .before .before .before .before .before .before .before .before .before .before .args in
+    c .if3 .grant ≡ min (a .budget) (a .desk .allowance)
 granted c = ⊎-elim (λ w. omega arith) (λ w. omega arith) (c .if3 .came)
 
 -- The course.
 performed : (c : tie.After-perform)
-    → Performs
-    (run-from
-    (min
-    (c .before .before .before .before .before .before .before .before .before .before .before .before .args .budget)
-    (c .before .before .before .before .before .before .before .before .before .before .before .before .args .desk .allowance))
-    (term-read (c .before .before .before .before) .0))
-    (now (c .before .before .before .before .before .before .before .before .before .before .before .before .args .work))
+    → let a = c .before .before .before .before .before .before .before .before .before .before .before .before .args in
+    Performs (run-from (min (a .budget) (a .desk .allowance)) (term-read (c .before .before .before .before) .0)) (now (a .work))
     (c .perform .result) (c .perform .last .1 .1 .0)
 performed c =
+    let a = c .before .before .before .before .before .before .before .before .before .before .before .before .args in
     let (t, e, r) = term-read (c .before .before .before .before) in
-    subst
-    (λ g.
-    Performs (run-from g t)
-    (now (c .before .before .before .before .before .before .before .before .before .before .before .before .args .work))
-    (c .perform .result) (c .perform .last .1 .1 .0))
-    (granted (c .before .before))
-    (c .perform .ensures t e r)
+    subst (λ g. Performs (run-from g t) (now (a .work)) (c .perform .result) (c .perform .last .1 .1 .0))
+    (granted (c .before .before)) (c .perform .ensures t e r)
 
 returns : tie.Need-returns
 returns c =
