@@ -5,6 +5,9 @@ use feguavy::feguavy_run;
 use term::part;
 use term::walk::span;
 use text::front;
+ghost use mathlib.Core.List.{[], _∷_, _++_};
+ghost use Rattle.text.specs.Appending.{Appends};
+ghost use Rattle.text.specs.Texts.{ascii, spaced};
 
 // The verbs, their letters as one number.
 const CHECK: u64 = 426953237355;
@@ -13,93 +16,86 @@ const RUN: u64 = 7501166;
 
 const PART: u64 = 1885434484;
 
-fn refusal(answer: u32, place: u32, out: &mut [u8], at: usize) -> usize {
-    let named = text::bytes(b"refused ", out, at);
-    let answered = text::decimal(answer as u64, out, named);
-    let parted = text::byte(b' ', out, answered);
-    text::decimal(place as u64, out, parted)
+// `refused ANSWER PLACE`.
+fn refusal(answer: u32, place: u32, out: &mut [u8], at: usize) -> usize
+    ensures { λ r. ⌜ Appends (ascii "refused" ++ spaced (answer ∷ place ∷ [])) (now (out .entry)) at r (now (out .exit)) ⌝ }
+{
+    let named = text::bytes(b"refused", out, at);
+    text::numbers(&[answer, place], out, named)
 }
 
-fn checked(
-    term: &[u16],
-    limit: u32,
-    work: &mut [u16],
-    result: &mut [u16],
-    out: &mut [u8],
-    at: usize,
-) -> usize {
-    let answer = feguavy_check(term, limit, work, result);
+// `typed | WORDS`, or the refusal.
+fn checked(term: &[u16], limit: u32, work: &mut [u16], out: &mut [u8], at: usize) -> usize {
+    let mut result = [0u16; 1024];
+    let answer = feguavy_check(term, limit, work, &mut result);
     if answer.answer != 0 {
         return refusal(answer.answer, answer.place, out, at);
     }
     let named = text::bytes(b"typed |", out, at);
-    text::spaced(front(result, answer.length as usize), out, named)
+    text::spaced(front(&result, answer.length as usize), out, named)
 }
 
 // `ran END STEPS LEFT |`.
-fn ended(end: u32, steps: u32, left: u32, out: &mut [u8], at: usize) -> usize {
-    let named = text::bytes(b"ran ", out, at);
-    let numbered = text::decimal(end as u64, out, named);
-    let first = text::byte(b' ', out, numbered);
-    let stepped = text::decimal(steps as u64, out, first);
-    let second = text::byte(b' ', out, stepped);
-    let lowered = text::decimal(left as u64, out, second);
-    text::bytes(b" |", out, lowered)
+fn ended(end: u32, steps: u32, left: u32, out: &mut [u8], at: usize) -> usize
+    ensures { λ r. ⌜ Appends (ascii "ran" ++ spaced (end ∷ steps ∷ left ∷ []) ++ ascii " |") (now (out .entry)) at r (now (out .exit)) ⌝ }
+{
+    let named = text::bytes(b"ran", out, at);
+    let numbered = text::numbers(&[end, steps, left], out, named);
+    text::bytes(b" |", out, numbered)
 }
 
+// `ran END STEPS LEFT | WORDS`, or the refusal.
 fn ran(
     term: &[u16],
     budget: u32,
     allowance: u32,
     work: &mut [u16],
-    result: &mut [u16],
     out: &mut [u8],
     at: usize,
 ) -> usize {
-    let answer = feguavy_run(term, budget, work, result, allowance);
+    let mut result = [0u16; 1024];
+    let answer = feguavy_run(term, budget, work, &mut result, allowance);
     if answer.answer != 0 {
         return refusal(answer.answer, answer.place, out, at);
     }
     let barred = ended(answer.end, answer.steps, answer.allowance, out, at);
-    let length = span(result);
-    text::spaced(front(result, length), out, barred)
+    let length = span(&result);
+    text::spaced(front(&result, length), out, barred)
 }
 
+// `part | WORDS`.
 fn parted(term: &[u16], number: u32, out: &mut [u8], at: usize) -> usize {
     let named = text::bytes(b"part |", out, at);
     text::spaced(part(term, number), out, named)
 }
 
-fn line(
-    request: Request,
-    words: &[u16],
-    work: &mut [u16],
-    result: &mut [u16],
-    out: &mut [u8],
-    at: usize,
-) -> usize {
-    let term = front(words, request.count);
+// Whether the line is a request: a verb with as many numbers as it takes.
+fn proper(request: Request) -> bool {
     let verb = request.verb;
     let numbers = request.numbers;
     if request.wrong {
-        return text::bytes(b"error", out, at);
-    }
-    if verb == CHECK {
-        if numbers == 1 {
-            return checked(term, request.first, work, result, out, at);
-        }
+        return false;
     }
     if verb == RUN {
-        if numbers == 2 {
-            return ran(term, request.first, request.second, work, result, out, at);
-        }
+        return numbers == 2;
     }
-    if verb == PART {
-        if numbers == 1 {
-            return parted(term, request.first, out, at);
-        }
+    numbers == 1 && (verb == CHECK || verb == PART)
+}
+
+// The answer, or `error` where the line is no request.
+fn line(request: Request, words: &[u16], work: &mut [u16], out: &mut [u8], at: usize) -> usize {
+    if !proper(request) {
+        return text::bytes(b"error", out, at);
     }
-    text::bytes(b"error", out, at)
+    let term = front(words, request.count);
+    let verb = request.verb;
+    if verb == CHECK {
+        return checked(term, request.first, work, out, at);
+    }
+    if verb == RUN {
+        return ran(term, request.first, request.second, work, out, at);
+    }
+    parted(term, request.first, out, at)
 }
 
 // Appends the answer and a line feed.
@@ -107,10 +103,9 @@ pub fn answer(
     request: Request,
     words: &[u16],
     work: &mut [u16],
-    result: &mut [u16],
     out: &mut [u8],
     at: usize,
 ) -> usize {
-    let end = line(request, words, work, result, out, at);
+    let end = line(request, words, work, out, at);
     text::byte(b'\n', out, end)
 }

@@ -1,7 +1,6 @@
 // One request a line in, one answer a line out: `check L | WORDS`, `run BUDGET ALLOWANCE | WORDS`, `part K | WORDS`.
 use crate::request::Request;
 use libc::STDIN_FILENO;
-use libc::STDOUT_FILENO;
 
 mod answer;
 mod request;
@@ -12,16 +11,15 @@ struct Progress {
     filled: usize,
 }
 
-// Writes out the first `filled` bytes where fewer than `room` are left.
-fn flush(out: &[u8], filled: usize, room: usize) -> usize {
-    if out.len() < filled {
-        return 0;
+// Writes the output out where the longest line might not fit behind it, and answers how much is then filled.
+fn flush(out: &[u8], filled: usize) -> usize {
+    if filled < out.len() {
+        if 8192 <= out.len() - filled {
+            return filled;
+        }
     }
-    if out.len() - filled < room {
-        io::write_all(STDOUT_FILENO, text::filled(out, filled));
-        return 0;
-    }
-    filled
+    text::print(out, filled);
+    0
 }
 
 // Takes one byte: at a line feed the request is answered.
@@ -30,7 +28,6 @@ fn take(
     byte: u8,
     words: &mut [u16],
     work: &mut [u16],
-    result: &mut [u16],
     out: &mut [u8],
 ) -> Progress {
     if byte != b'\n' {
@@ -40,10 +37,10 @@ fn take(
         };
     }
     let request = before.request.ended(words);
-    let filled = answer::answer(request, words, work, result, out, before.filled);
+    let filled = answer::answer(request, words, work, out, before.filled);
     Progress {
         request: Request::new(),
-        filled: flush(out, filled, 8192),
+        filled: flush(out, filled),
     }
 }
 
@@ -52,13 +49,12 @@ fn take_all(
     input: &[u8],
     words: &mut [u16],
     work: &mut [u16],
-    result: &mut [u16],
     out: &mut [u8],
 ) -> Progress {
     let mut now = before;
     let mut i = 0;
     while i < input.len() {
-        now = take(now, input[i], words, work, result, out);
+        now = take(now, input[i], words, work, out);
         i += 1;
     }
     now
@@ -66,60 +62,38 @@ fn take_all(
 
 // Takes what was read at one go, and writes out every answer to it.
 fn take_chunk(
-    before: Progress,
+    request: Request,
     input: &[u8],
     words: &mut [u16],
     work: &mut [u16],
-    result: &mut [u16],
     out: &mut [u8],
-) -> Progress {
-    let after = take_all(before, input, words, work, result, out);
-    let request = after.request;
-    Progress {
-        request,
-        filled: flush(out, after.filled, 65537),
+) -> Request {
+    let after = take_all(Progress { request, filled: 0 }, input, words, work, out);
+    text::print(out, after.filled);
+    after.request
+}
+
+// A last line with no line feed is answered too.
+fn finish(last: Request, words: &mut [u16], work: &mut [u16], out: &mut [u8]) {
+    if last.begun() {
+        let filled = answer::answer(last.ended(words), words, work, out, 0);
+        text::print(out, filled);
     }
 }
 
-// Reads to the end of the input. A proved loop has to end: it counts down from a number that no input uses up.
-fn serve(
-    input: &mut [u8],
-    words: &mut [u16],
-    work: &mut [u16],
-    result: &mut [u16],
-    out: &mut [u8],
-) -> Progress {
-    let mut now = Progress {
-        request: Request::new(),
-        filled: 0,
-    };
+// Answers to the end of the input. A proved loop has to end: it counts down from a number that no input uses up.
+fn serve(input: &mut [u8], words: &mut [u16], work: &mut [u16], out: &mut [u8]) {
+    let mut now = Request::new();
     let mut turns = u64::MAX;
     while 0 < turns {
         turns -= 1;
         let got = libc::read(STDIN_FILENO, input);
         let count = io::count(got, input);
         if count == 0 {
-            return now;
+            return finish(now, words, work, out);
         }
-        now = take_chunk(now, text::filled(input, count), words, work, result, out);
+        now = take_chunk(now, text::filled(input, count), words, work, out);
     }
-    now
-}
-
-// A last line with no line feed is answered too.
-fn finish(
-    last: Progress,
-    words: &mut [u16],
-    work: &mut [u16],
-    result: &mut [u16],
-    out: &mut [u8],
-) -> usize {
-    let request = last.request;
-    if request.begun() {
-        let after = take(last, b'\n', words, work, result, out);
-        return after.filled;
-    }
-    last.filled
 }
 
 fn main() {
@@ -127,8 +101,5 @@ fn main() {
     let mut out = io::large_buffer();
     let mut words = [0u16; 1025];
     let mut work = [0u16; 524288];
-    let mut result = [0u16; 1024];
-    let last = serve(&mut input, &mut words, &mut work, &mut result, &mut out);
-    let filled = finish(last, &mut words, &mut work, &mut result, &mut out);
-    flush(&out, filled, 65537);
+    serve(&mut input, &mut words, &mut work, &mut out);
 }

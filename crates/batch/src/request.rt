@@ -52,11 +52,13 @@ impl Request {
         }
     }
 
+    // The line is no request.
     fn refused(mut self) -> Self {
         self.wrong = true;
         self
     }
 
+    // One letter of the verb, which has at most five: the four before it are a number of 32 bits.
     fn letter(mut self, byte: u8) -> Self {
         if self.phase != 0 {
             return self.refused();
@@ -69,6 +71,7 @@ impl Request {
         self
     }
 
+    // One digit of a number or a word. A field of more than 32 bits is too large for either.
     fn digit(mut self, value: u8) -> Self {
         if self.phase == 0 {
             return self.refused();
@@ -100,6 +103,7 @@ impl Request {
         self.word(field, words)
     }
 
+    // A number of 32 bits, of which a request has two at most.
     fn number(mut self, value: u64) -> Self {
         if 4294967295 < value {
             return self.refused();
@@ -117,6 +121,7 @@ impl Request {
         self.refused()
     }
 
+    // A word of 16 bits, kept where there is room.
     fn word(mut self, value: u64, words: &mut [u16]) -> Self {
         if 65535 < value {
             return self.refused();
@@ -129,6 +134,7 @@ impl Request {
         self
     }
 
+    // The bar between the numbers and the words.
     fn bar(self, words: &mut [u16]) -> Self {
         let mut line = self.field_ended(words);
         if line.phase != 1 {

@@ -2,10 +2,11 @@
 use feguavy::feguavy_check;
 use feguavy::feguavy_run;
 use libc::STDIN_FILENO;
-use libc::STDOUT_FILENO;
 use term::walk::span;
-use text::filled;
 use text::front;
+ghost use mathlib.Core.List.{[], _∷_, _++_};
+ghost use Rattle.text.specs.Appending.{Appends};
+ghost use Rattle.text.specs.Texts.{decimal, list};
 
 // What is printed, but for the lists, of which it has the lengths.
 struct Report {
@@ -81,13 +82,18 @@ fn answer(words: &[u16], count: usize, output: &mut [u16], state: &mut [u16]) ->
     judge(front(words, count / 2), output, state)
 }
 
-fn line(name: &[u8], value: u32, out: &mut [u8], at: usize) -> usize {
-    let named = text::bytes(name, out, at);
-    let valued = text::decimal(value as u64, out, named);
+// `NAMEVALUE` and a line feed.
+fn line(name: &[u8], value: u32, out: &mut [u8], at: usize) -> usize
+    ensures { λ r. ⌜ Appends (now (name .entry) ++ decimal value ++ (10 ∷ [])) (now (out .entry)) at r (now (out .exit)) ⌝ }
+{
+    let valued = text::named(name, value as u64, out, at);
     text::byte(b'\n', out, valued)
 }
 
-fn list_line(name: &[u8], words: &[u16], out: &mut [u8], at: usize) -> usize {
+// `NAMEWORDS` and a line feed.
+fn list_line(name: &[u8], words: &[u16], out: &mut [u8], at: usize) -> usize
+    ensures { λ r. ⌜ Appends (now (name .entry) ++ list (now (words .entry)) ++ (10 ∷ [])) (now (out .entry)) at r (now (out .exit)) ⌝ }
+{
     let named = text::bytes(name, out, at);
     let listed = text::list(words, out, named);
     text::byte(b'\n', out, listed)
@@ -101,7 +107,7 @@ fn print(report: Report, output: &[u16], state: &[u16]) {
     let ended = line(b"end=", report.end, &mut out, typed);
     let stepped = line(b"steps=", report.steps, &mut out, ended);
     let all = list_line(b"state=", front(state, report.count), &mut out, stepped);
-    io::write_all(STDOUT_FILENO, filled(&out, all));
+    text::print(&out, all);
 }
 
 fn main() {

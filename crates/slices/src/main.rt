@@ -4,12 +4,6 @@ use feguavy::CheckedNumbers;
 use feguavy::RanNumbers;
 use feguavy::feguavy_check;
 use feguavy::feguavy_run;
-use libc::STDOUT_FILENO;
-use text::bytes;
-use text::decimal;
-use text::filled;
-use text::front;
-use text::spaced;
 ghost use Prim.Native.Nat.{_≤_};
 
 // The word that a slice holds at `i` before a call: never 0.
@@ -55,65 +49,54 @@ fn kept_from(words: &[u16]) -> usize {
     n
 }
 
-// ` NAME LENGTH zeros=Z kept=K`: the words from K on are as they were.
+// ` work LENGTH zeros=Z kept=K`: the first Z words are zeros, and those from K on are as they were.
 fn put_work(words: &[u16], out: &mut [u8], at: usize) -> usize {
-    let named = bytes(b" work ", out, at);
-    let sized = decimal(words.len() as u64, out, named);
-    let zeroed = bytes(b" zeros=", out, sized);
-    let counted = decimal(zeros(words) as u64, out, zeroed);
-    let kept = bytes(b" kept=", out, counted);
-    decimal(kept_from(words) as u64, out, kept)
+    let sized = text::named(b" work ", words.len() as u64, out, at);
+    let counted = text::named(b" zeros=", zeros(words) as u64, out, sized);
+    text::named(b" kept=", kept_from(words) as u64, out, counted)
 }
 
 // ` out LENGTH |` and the words that changed.
-fn put_out(words: &[u16], out: &mut [u8], at: usize) -> usize {
-    let named = bytes(b" out ", out, at);
-    let sized = decimal(words.len() as u64, out, named);
-    let barred = bytes(b" |", out, sized);
-    spaced(front(words, kept_from(words)), out, barred)
-}
-
-// ` VALUE`.
-fn put_number(value: u32, out: &mut [u8], at: usize) -> usize {
-    let gap = bytes(b" ", out, at);
-    decimal(value as u64, out, gap)
+fn put_result(words: &[u16], out: &mut [u8], at: usize) -> usize {
+    let sized = text::named(b" out ", words.len() as u64, out, at);
+    let barred = text::bytes(b" |", out, sized);
+    text::spaced(text::front(words, kept_from(words)), out, barred)
 }
 
 // ` | WORDS ->`.
 fn put_term(term: &[u16], out: &mut [u8], at: usize) -> usize {
-    let barred = bytes(b" |", out, at);
-    let termed = spaced(term, out, barred);
-    bytes(b" ->", out, termed)
+    let barred = text::bytes(b" |", out, at);
+    let termed = text::spaced(term, out, barred);
+    text::bytes(b" ->", out, termed)
 }
 
 // The words that the two slices now hold, and a line feed.
-fn put_slices(work: &[u16], output: &[u16], out: &mut [u8], at: usize) -> usize {
+fn put_slices(work: &[u16], result: &[u16], out: &mut [u8], at: usize) -> usize {
     let worked = put_work(work, out, at);
-    let ended = put_out(output, out, worked);
-    bytes(b"\n", out, ended)
+    let ended = put_result(result, out, worked);
+    text::byte(b'\n', out, ended)
 }
 
-fn checked(term: &[u16], limit: u32, work: &mut [u16], output: &mut [u16]) -> CheckedNumbers {
+fn checked(term: &[u16], limit: u32, work: &mut [u16], result: &mut [u16]) -> CheckedNumbers {
     spoil(work);
-    spoil(output);
-    feguavy_check(term, limit, work, output)
+    spoil(result);
+    feguavy_check(term, limit, work, result)
 }
 
+// `check LIMIT | WORDS -> ANSWER PLACE LENGTH`.
 fn put_checked(term: &[u16], limit: u32, r: CheckedNumbers, out: &mut [u8]) -> usize {
-    let named = bytes(b"check", out, 0);
-    let limited = put_number(limit, out, named);
+    let named = text::bytes(b"check", out, 0);
+    let limited = text::numbers(&[limit], out, named);
     let termed = put_term(term, out, limited);
-    let answered = put_number(r.answer, out, termed);
-    let placed = put_number(r.place, out, answered);
-    put_number(r.length, out, placed)
+    text::numbers(&[r.answer, r.place, r.length], out, termed)
 }
 
-fn try_check(term: &[u16], limit: u32, work: &mut [u16], output: &mut [u16]) {
+fn try_check(term: &[u16], limit: u32, work: &mut [u16], result: &mut [u16]) {
     let mut out = [0u8; 16384];
-    let r = checked(term, limit, work, output);
+    let r = checked(term, limit, work, result);
     let answered = put_checked(term, limit, r, &mut out);
-    let all = put_slices(work, output, &mut out, answered);
-    io::write_all(STDOUT_FILENO, filled(&out, all));
+    let all = put_slices(work, result, &mut out, answered);
+    text::print(&out, all);
 }
 
 fn ran(
@@ -121,31 +104,31 @@ fn ran(
     budget: u32,
     allowance: u32,
     work: &mut [u16],
-    state: &mut [u16],
+    result: &mut [u16],
 ) -> RanNumbers {
     spoil(work);
-    spoil(state);
-    feguavy_run(term, budget, work, state, allowance)
+    spoil(result);
+    feguavy_run(term, budget, work, result, allowance)
 }
 
+// `run BUDGET ALLOWANCE | WORDS -> ANSWER PLACE END STEPS LEFT`.
 fn put_ran(term: &[u16], budget: u32, allowance: u32, r: RanNumbers, out: &mut [u8]) -> usize {
-    let named = bytes(b"run", out, 0);
-    let budgeted = put_number(budget, out, named);
-    let allowed = put_number(allowance, out, budgeted);
-    let termed = put_term(term, out, allowed);
-    let answered = put_number(r.answer, out, termed);
-    let placed = put_number(r.place, out, answered);
-    let ended = put_number(r.end, out, placed);
-    let stepped = put_number(r.steps, out, ended);
-    put_number(r.allowance, out, stepped)
+    let named = text::bytes(b"run", out, 0);
+    let granted = text::numbers(&[budget, allowance], out, named);
+    let termed = put_term(term, out, granted);
+    text::numbers(
+        &[r.answer, r.place, r.end, r.steps, r.allowance],
+        out,
+        termed,
+    )
 }
 
-fn try_run(term: &[u16], budget: u32, allowance: u32, work: &mut [u16], state: &mut [u16]) {
+fn try_run(term: &[u16], budget: u32, allowance: u32, work: &mut [u16], result: &mut [u16]) {
     let mut out = [0u8; 16384];
-    let r = ran(term, budget, allowance, work, state);
+    let r = ran(term, budget, allowance, work, result);
     let answered = put_ran(term, budget, allowance, r, &mut out);
-    let all = put_slices(work, state, &mut out, answered);
-    io::write_all(STDOUT_FILENO, filled(&out, all));
+    let all = put_slices(work, result, &mut out, answered);
+    text::print(&out, all);
 }
 
 // A check on the first `room` and `size` words, where there are so many.
@@ -154,12 +137,12 @@ fn check_on(
     limit: u32,
     work: &mut [u16],
     room: usize,
-    output: &mut [u16],
+    result: &mut [u16],
     size: usize,
 ) {
     if room <= work.len() {
-        if size <= output.len() {
-            try_check(term, limit, &mut work[..room], &mut output[..size]);
+        if size <= result.len() {
+            try_check(term, limit, &mut work[..room], &mut result[..size]);
         }
     }
 }
@@ -171,31 +154,31 @@ fn run_on(
     allowance: u32,
     work: &mut [u16],
     room: usize,
-    state: &mut [u16],
+    result: &mut [u16],
     size: usize,
 ) {
     if room <= work.len() {
-        if size <= state.len() {
+        if size <= result.len() {
             try_run(
                 term,
                 budget,
                 allowance,
                 &mut work[..room],
-                &mut state[..size],
+                &mut result[..size],
             );
         }
     }
 }
 
 // A check at each boundary length for a limit.
-fn check_all(term: &[u16], limit: u32, work: &mut [u16], output: &mut [u16]) {
+fn check_all(term: &[u16], limit: u32, work: &mut [u16], result: &mut [u16]) {
     let room = least(512 * (limit as usize), work.len());
-    let size = least(limit as usize, output.len());
+    let size = least(limit as usize, result.len());
     let more = least(room + 3, work.len());
-    let longer = least(size + 3, output.len());
-    check_on(term, limit, work, room, output, size);
-    check_on(term, limit, work, more, output, longer);
-    check_short(term, limit, work, room, output, size);
+    let longer = least(size + 3, result.len());
+    check_on(term, limit, work, room, result, size);
+    check_on(term, limit, work, more, result, longer);
+    check_short(term, limit, work, room, result, size);
 }
 
 // A check where a slice is empty, or one word short.
@@ -204,83 +187,87 @@ fn check_short(
     limit: u32,
     work: &mut [u16],
     room: usize,
-    output: &mut [u16],
+    result: &mut [u16],
     size: usize,
 ) {
-    check_on(term, limit, work, 0, output, size);
-    check_on(term, limit, work, room, output, 0);
+    check_on(term, limit, work, 0, result, size);
+    check_on(term, limit, work, room, result, 0);
     if 0 < room {
         if 0 < size {
-            check_on(term, limit, work, room - 1, output, size);
-            check_on(term, limit, work, room, output, size - 1);
-            check_on(term, limit, work, room - 1, output, size - 1);
+            check_on(term, limit, work, room - 1, result, size);
+            check_on(term, limit, work, room, result, size - 1);
+            check_on(term, limit, work, room - 1, result, size - 1);
         }
     }
 }
 
-fn check_low_limits(term: &[u16], work: &mut [u16], output: &mut [u16]) {
-    check_all(term, 0, work, output);
-    check_all(term, 1, work, output);
-    check_all(term, 4, work, output);
-    check_all(term, 5, work, output);
-    check_all(term, 64, work, output);
-}
-
-fn check_high_limits(term: &[u16], work: &mut [u16], output: &mut [u16]) {
-    check_all(term, 1023, work, output);
-    check_all(term, 1024, work, output);
-    check_all(term, 1025, work, output);
-    check_all(term, 4294967295, work, output);
+fn check_limits(term: &[u16], limits: &[u32], work: &mut [u16], result: &mut [u16]) {
+    let mut i = 0;
+    while i < limits.len() {
+        check_all(term, limits[i], work, result);
+        i += 1;
+    }
 }
 
 // A run at each boundary length.
-fn run_all(term: &[u16], budget: u32, allowance: u32, work: &mut [u16], state: &mut [u16]) {
-    run_on(term, budget, allowance, work, 4096, state, 1024);
-    run_on(term, budget, allowance, work, 4099, state, 1027);
-    run_short(term, budget, allowance, work, state);
+fn run_all(term: &[u16], budget: u32, allowance: u32, work: &mut [u16], result: &mut [u16]) {
+    run_on(term, budget, allowance, work, 4096, result, 1024);
+    run_on(term, budget, allowance, work, 4099, result, 1027);
+    run_short(term, budget, allowance, work, result);
 }
 
 // A run where a slice is one word short, or empty.
-fn run_short(term: &[u16], budget: u32, allowance: u32, work: &mut [u16], state: &mut [u16]) {
-    run_on(term, budget, allowance, work, 4095, state, 1024);
-    run_on(term, budget, allowance, work, 4096, state, 1023);
-    run_on(term, budget, allowance, work, 4095, state, 1023);
-    run_on(term, budget, allowance, work, 0, state, 0);
+fn run_short(term: &[u16], budget: u32, allowance: u32, work: &mut [u16], result: &mut [u16]) {
+    run_on(term, budget, allowance, work, 4095, result, 1024);
+    run_on(term, budget, allowance, work, 4096, result, 1023);
+    run_on(term, budget, allowance, work, 4095, result, 1023);
+    run_on(term, budget, allowance, work, 0, result, 0);
 }
 
-fn run_budgets(term: &[u16], work: &mut [u16], state: &mut [u16]) {
-    run_all(term, 0, 7, work, state);
-    run_all(term, 1, 7, work, state);
-    run_all(term, 3, 2, work, state);
-    run_all(term, 1000, 4294967295, work, state);
-    run_all(term, 5, 0, work, state);
+fn run_budgets(term: &[u16], work: &mut [u16], result: &mut [u16]) {
+    run_all(term, 0, 7, work, result);
+    run_all(term, 1, 7, work, result);
+    run_all(term, 3, 2, work, result);
+    run_all(term, 1000, 4294967295, work, result);
+    run_all(term, 5, 0, work, result);
 }
 
-fn all(term: &[u16], work: &mut [u16], output: &mut [u16], state: &mut [u16]) {
-    check_low_limits(term, work, output);
-    check_high_limits(term, work, output);
-    run_budgets(term, work, state);
+// Checks at limits that are and that are not allowed, and runs.
+fn all(term: &[u16], work: &mut [u16], result: &mut [u16]) {
+    let limits = [0, 1, 4, 5, 64, 1023, 1024, 1025, 4294967295];
+    check_limits(term, &limits, work, result);
+    run_budgets(term, work, result);
+}
+
+// Star, a down cast on an up cast, and a term that is stuck.
+fn ending_terms(work: &mut [u16], result: &mut [u16]) {
+    all(&[0], work, result);
+    all(&[1, 3, 2, 4, 0, 16, 0, 0], work, result);
+    all(&[2, 0, 0], work, result);
+}
+
+// The identity, a term that runs on, and one that grows.
+fn binding_terms(work: &mut [u16], result: &mut [u16]) {
+    all(&[4, 0, 4, 16, 16], work, result);
+    all(&[6, 0, 16], work, result);
+    all(&[6, 0, 2, 16, 16], work, result);
+}
+
+// A list that ends too early, a word with no meaning, and no words.
+fn no_terms(work: &mut [u16], result: &mut [u16]) {
+    all(&[2, 0], work, result);
+    all(&[7], work, result);
+    all(&[], work, result);
+}
+
+fn all_words(work: &mut [u16], result: &mut [u16]) {
+    ending_terms(work, result);
+    binding_terms(work, result);
+    no_terms(work, result);
 }
 
 fn main() {
     let mut work = [0u16; 524291];
-    let mut output = [0u16; 1027];
-    let mut state = [0u16; 1027];
-    let star = [0u16];
-    let cast = [1u16, 3, 2, 4, 0, 16, 0, 0];
-    let stuck = [2u16, 0, 0];
-    let pair = [4u16, 0, 4, 16, 16];
-    let spin = [6u16, 0, 16];
-    let grows = [6u16, 0, 2, 16, 16];
-    let unread = [2u16, 0];
-    let nothing = [7u16];
-    all(&star, &mut work, &mut output, &mut state);
-    all(&cast, &mut work, &mut output, &mut state);
-    all(&stuck, &mut work, &mut output, &mut state);
-    all(&pair, &mut work, &mut output, &mut state);
-    all(&spin, &mut work, &mut output, &mut state);
-    all(&grows, &mut work, &mut output, &mut state);
-    all(&unread, &mut work, &mut output, &mut state);
-    all(&nothing, &mut work, &mut output, &mut state);
-    all(&nothing[..0], &mut work, &mut output, &mut state);
+    let mut result = [0u16; 1027];
+    all_words(&mut work, &mut result);
 }

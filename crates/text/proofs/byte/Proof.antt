@@ -1,25 +1,21 @@
--- `text::byte` meets its contract. A store keeps the slice's length, and the place behind it is at most that length.
--- Assumes nothing.
+-- `byte` meets its contract: where there is room the byte is stored, and otherwise the store would be past the end.
+use mathlib.Core.Path.{refl, sym}
 use borrow.Author.Needs.{needs}
 use native.Mathlib.Omega.{arith}
-use lib.ListN.{length-set}
+use lib.Seq.{set-out}
+use Rattle.text.specs.Appending.{appends, behind}
 use Rattle.text.proofs.byte.Statement.{statement}
 use Rattle.text.proofs.byte.Tie as tie
 
-slice-write-out : tie.Need-slice-write-out
-slice-write-out c = search needs
-
-add-result : tie.Need-add-result
-add-result c = search needs
-
-same-length : tie.Need-same-length
-same-length c = search needs
-
 returns : tie.Need-returns
-returns c = simp length-set (omega arith)
+unfolding behind
+returns c = appends (omega arith) refl
 
 returns-2 : tie.Need-returns-2
-returns-2 c = search needs
+unfolding behind
+returns-2 c =
+    let a = c .before .args in
+    appends (omega arith) (sym (set-out (a .out .now) (a .at) (a .value) (omega arith)))
 
 pub byte-spec : {M : Type 1} → statement M
-byte-spec = tie.close (tie.spec slice-write-out add-result same-length returns returns-2)
+byte-spec = tie.close (tie.spec (λ c. search needs) (λ c. search needs) (λ c. search needs) returns returns-2)

@@ -1,0 +1,20 @@
+-- `ended` meets its contract: the word, its three numbers and the bar, one behind the other.
+use borrow.Author.Needs.{needs}
+use Rattle.text.specs.Texts.{ascii}
+use Rattle.text.proofs.Appended.{both}
+use Rattle.batch.proofs.answer.ended.Statement.{statement}
+use Rattle.batch.proofs.answer.ended.Tie as tie
+
+returns : tie.Need-returns
+unfolding ascii
+returns c =
+    let bar = c .before .before in
+    let numbers = bar .before .before .before .before .before in
+    both (both (numbers .before .before .before .before .before .bytes .ensures) (numbers .numbers .ensures)) (bar .bytes2 .ensures)
+
+pub ended-spec : {M : Type 1} → statement M
+ended-spec =
+    tie.close
+    (tie.spec
+    (λ c. search needs) (λ c κs. search needs) (λ c. search needs) (λ c κs. search needs) (λ c. search needs) (λ c κs. search needs)
+    (λ c. search needs) returns)

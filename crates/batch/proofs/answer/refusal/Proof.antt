@@ -1,0 +1,17 @@
+-- `refusal` meets its contract: the word and its two numbers, one behind the other.
+use borrow.Author.Needs.{needs}
+use Rattle.text.specs.Texts.{ascii}
+use Rattle.text.proofs.Appended.{both}
+use Rattle.batch.proofs.answer.refusal.Statement.{statement}
+use Rattle.batch.proofs.answer.refusal.Tie as tie
+
+returns : tie.Need-returns
+unfolding ascii
+returns c =
+    let numbers = c .before .before in
+    both (numbers .before .before .before .before .before .bytes .ensures) (numbers .numbers .ensures)
+
+pub refusal-spec : {M : Type 1} → statement M
+refusal-spec =
+    tie.close
+    (tie.spec (λ c. search needs) (λ c κs. search needs) (λ c. search needs) (λ c κs. search needs) (λ c. search needs) returns)

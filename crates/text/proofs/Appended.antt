@@ -1,0 +1,47 @@
+-- Two appends in a row are one of both texts. Where the first fits, the second begins where its stores end. Where it does not, its
+-- answer is past the end or at it, and the second stores nothing, wherever it begins.
+use Prim.Native.Nat.{ℕ, suc, _+_, _-_, _≤_, _<_, min}
+use mathlib.Core.List.{List, [], _∷_, _++_}
+use mathlib.Core.Logic.{⊎-elim}
+use mathlib.Core.Path.{_≡_, refl, sym, ap, _∙_}
+use native.Mathlib.Nat.{add-zero, add-suc, suc-add, eq-or-lt-of-le}
+use native.Mathlib.Omega.{arith}
+use lib.ListN.{length, set, length-append}
+use lib.Seq.{sets, length-sets, set-out}
+use Rattle.text.specs.Appending.{Appends, appends, behind}
+
+sets-append : (l : List ℕ) (at : ℕ) (bs cs : List ℕ) → sets l at (bs ++ cs) ≡ sets (sets l at bs) (at + length bs) cs
+sets-append l at [] cs = rw (add-zero at)
+sets-append l at (b ∷ bs) cs = rw (add-suc at (length bs), ← suc-add at (length bs)) (sets-append (set l at b) (suc at) bs cs)
+
+sets-out : (l : List ℕ) (at : ℕ) (bs : List ℕ) → length l ≤ at → sets l at bs ≡ l
+sets-out l at [] h = refl
+sets-out l at (b ∷ bs) h = rw (set-out l at b h) (sets-out l (suc at) bs (omega arith))
+
+pub none : (out : List ℕ) (at : ℕ) → Appends [] out at at out
+unfolding behind
+none out at = appends (omega arith) refl
+
+pub length-appended : {bs out after : List ℕ} {at r : ℕ} → Appends bs out at r after → length after ≡ length out
+length-appended {bs} {out} {after} {at} (appends place stored) = ap length stored ∙ length-sets out at bs
+
+onwards : (bs cs out : List ℕ) (at : ℕ) → sets (sets out at bs) (behind bs out at) cs ≡ sets (sets out at bs) (at + length bs) cs
+unfolding behind
+onwards bs cs out at =
+    let same = length-sets out at bs in
+    let next : ℕ = at + min (length bs) (length out - at) in
+    ⊎-elim
+    (λ (e : next ≡ at + length bs). ap (λ n. sets (sets out at bs) n cs) e)
+    (λ (l : next < at + length bs).
+    sets-out (sets out at bs) next cs (omega arith) ∙ sym (sets-out (sets out at bs) (at + length bs) cs (omega arith)))
+    (eq-or-lt-of-le (omega arith))
+
+pub both : {bs cs out mid after : List ℕ} {at next end : ℕ}
+    → Appends bs out at next mid
+    → Appends cs mid next end after
+    → Appends (bs ++ cs) out at end after
+unfolding behind
+both {bs} {cs} {out} {mid} {after} {at} (appends p s) (appends q t) =
+    appends
+    (omega (arith, length-append bs cs, ap length s, length-sets out at bs))
+    (t ∙ rw (s, p) (onwards bs cs out at ∙ sym (sets-append out at bs cs)))

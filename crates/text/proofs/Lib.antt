@@ -1,0 +1,4 @@
+-- The laws behind the functions' proofs, and those that callers of this crate use.
+pub mod Appended
+pub mod Decimals
+pub mod Lists
