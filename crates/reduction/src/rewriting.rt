@@ -162,7 +162,7 @@ fn rewrite_whole(
     }
 }
 
-// Writes the one subterm that `source` is with its free variables raised.
+// Writes the one subterm that `source` is with its free variables raised. Raising takes no argument: an empty one is passed.
 pub fn raise(source: &[u16], by: u16, out: &mut [u16], at: usize) -> Room
     requires { ⌜ (at ≤ length (now out)) × (span (now source) 1 ≡ length (now source)) × (length (now source) ≤ 2048) × Plain (now source) × (by ≤ 2048) ⌝ }
     ensures { λ r. ⌜ Writes (raised by (now (source .entry))) (now (out .entry)) at r (now (out .exit)) ⌝ }

@@ -7,7 +7,7 @@ use borrow.Author.Needs.{needs}
 use lib.ListN.{length-set}
 use Rattle.reduction.proofs.Plain.{below-at}
 use Rattle.reduction.proofs.Turns.{turn-first, turn-length, turn-last, leaf-read, leaf-wrote, leaf-lacked, word-lacked, turn-leaf, turn-one}
-use Rattle.reduction.proofs.Wrote.{wrote-of, lacked-of, rewrites-all, written-short}
+use Rattle.reduction.proofs.Wrote.{next-within, wrote-of, lacked-of, rewrites-all, written-short}
 use Rattle.reduction.proofs.rewriting.rewrite.Reads as reads
 use Rattle.reduction.proofs.rewriting.+rewrite+rewrite_variable+rewrite_whole.Lts-rewrite as lts
 use Rattle.reduction.proofs.rewriting.+rewrite+rewrite_variable+rewrite_whole.Proof.Arms.{one-word, last-word}
@@ -35,7 +35,7 @@ module _ (t : ℕ) where
       let small = below-at 2048 (start .args .source .now) (l .read) (start .pre .1 .2) more in (
         omega (arith, start .pre .0, more),
         (
-          omega (arith, l .inv .wrote .room, l .inv .wrote .place, turn-length (l .inv)),
+          next-within (l .inv .wrote),
           omega (arith, small, index t (c .before .before)),
           omega (arith, l .inv .shallow, more),
           start .pre .1 .3,
