@@ -36,7 +36,7 @@ unfoldable pub changed-word : Change → List ℕ → ℕ → ℕ → List ℕ
 changed-word (change.Raise n) u = raised-word n
 changed-word (change.Put c) u = put-word u
 
--- Every word is below `n`. Below 16 none is a variable.
+-- Every word is below `n`. Below 16 none is a variable; 2,048 is above every word that means something.
 unfoldable pub Below : ℕ → List ℕ → Type 0
 Below n [] = Unit
 Below n (w ∷ ws) = (w < n) × Below n ws

@@ -18,7 +18,7 @@ ghost use Rattle.reduction.specs.declared.rewriting.Change.the-variants.
 ghost use Rattle.reduction.specs.Stepping.{Arrives, Coded, Codes, Finishes, Located, Steps, heads, locate};
 
 // Where a state steps and by which rule: the place of the application, of the down cast or of the recursion.
-pub enum Redex {
+enum Redex {
     Value,
     Stuck,
     Beta(usize),
@@ -52,7 +52,7 @@ fn leading(state: &[u16]) -> usize
 }
 
 // The redex of a state.
-pub fn find_redex(state: &[u16]) -> Redex
+fn find_redex(state: &[u16]) -> Redex
     requires { ⌜ Coded (now state) ⌝ }
     ensures { λ r. ⌜ ((t : Term) → now (state .entry) ≡ words t → r ≡ locate t) ⌝ }
 {
