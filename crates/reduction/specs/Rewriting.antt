@@ -49,6 +49,12 @@ unfoldable pub Bounded : Change → List ℕ → Type 0
 Bounded (change.Raise n) u = n ≤ 2048
 Bounded (change.Put c) u = Plain u × (length u ≤ 2048) × (span u 1 ≡ length u) × (c ≡ true → (n : ℕ) → raised n u ≡ u)
 
+-- What is asked by a call that writes the one subterm `source` from `at` on: a place within the output, a source that is one
+-- subterm, short and of small words, and `numbers`, what its change asks.
+abbrev pub Asks : (source out : List ℕ) → ℕ → Type 0 → Type 0
+Asks source out at numbers =
+    (at ≤ length out) × (span source 1 ≡ length source) × (length source ≤ 2048) × Plain source × numbers
+
 -- What follows a word, as the enum has it.
 unfoldable pub shape-of : Shape → ℕ → Type 0
 shape-of (shape.Variable i) w = w ≡ 16 + i
