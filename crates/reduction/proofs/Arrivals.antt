@@ -1,6 +1,6 @@
 -- The next state is written in order: what stands before the redex, what it steps to, what stands behind. The last call that
 -- writes gives the answer for all of it; where a call before it lacks room, so does the whole.
-use Prim.Native.Nat.{ℕ, _-_, _≤_}
+use Prim.Native.Nat.{ℕ, _-_}
 use mathlib.Core.List.{List, _++_}
 use mathlib.Core.Path.{_≡_, refl, sym, ap, _∙_, subst}
 use native.Mathlib.Nat.{zero-add}
@@ -13,7 +13,7 @@ use Rattle.reduction.specs.declared.stepping.Stepped.{Stepped}
 use Rattle.reduction.specs.declared.stepping.Stepped.the-variants as stepped
 use Rattle.reduction.specs.Writing.{Writes}
 use Rattle.reduction.specs.Stepping.{Arrives, Finishes}
-use Rattle.reduction.proofs.Wrote.{Wrote, Lacked, length-wrote, written-then}
+use Rattle.reduction.proofs.Wrote.{Wrote, Lacked, written-then}
 
 abbrev pub answer : Room → Stepped
 answer (room.To n) = stepped.To n
@@ -31,9 +31,6 @@ finishes w same =
 
 pub arrives-short : {e out last after : List ℕ} → Lacked e out 0 last → Arrives e out stepped.Full after
 arrives-short l = record { fits = λ h. absurd (omega arith); full = λ h. refl }
-
-pub next-within : {e out after : List ℕ} {at next : ℕ} → Wrote e out at next after → next ≤ length after
-next-within w = omega (arith, w .place, w .room, length-wrote w)
 
 from-front : {e out : List ℕ} {s : Stepped} {after : List ℕ} → Finishes e out 0 s after → Arrives e out s after
 from-front {e} f =

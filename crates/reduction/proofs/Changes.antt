@@ -1,6 +1,5 @@
--- What stands for a word, by the outcomes of the tests that tell a free variable from the rest: a word below 16 and a bound
--- variable stand for themselves, a free variable is raised, or lowered, or gives way to the argument raised by the binders
--- around.
+-- What stands for a word, by the outcome of each test of the definition: a word below 16 and a bound variable stand for
+-- themselves; a free variable is raised, or lowered, or gives way to the argument raised by the binders around.
 use Prim.Native.Nat.{ℕ, _+_, _-_, _≤_, _<_}
 use mathlib.Core.Bool.{Bool}
 use mathlib.Core.List.{List, [], _∷_}

@@ -1,13 +1,13 @@
 -- The laws behind the functions' proofs, and those that callers of this crate use.
 pub mod Stores
 pub mod Wrote
+pub mod Plain
 pub mod Shapes
 pub mod Changes
 pub mod Passing
 pub mod Tails
 pub mod Turns
 pub mod Scoping
-pub mod Plain
 pub mod Rewritten
 pub mod Frames
 pub mod Redexes

@@ -64,6 +64,9 @@ module _ {e out : List ℕ} {at next : ℕ} {mid : List ℕ} (w : Wrote e out at
   pub length-wrote : length mid ≡ length out
   length-wrote = ap length (w .stored) ∙ length-sets out at e
 
+  pub next-within : next ≤ length mid
+  next-within = omega (arith, w .place, w .room, length-wrote)
+
   pub wrote-both : {e₂ : List ℕ} {end : ℕ} {after : List ℕ} → Wrote e₂ mid next end after → Wrote (e ++ e₂) out at end after
   wrote-both {e₂} v =
       record {

@@ -36,7 +36,7 @@ unfoldable pub changed-word : Change → List ℕ → ℕ → ℕ → List ℕ
 changed-word (change.Raise n) u = raised-word n
 changed-word (change.Put c) u = put-word u
 
--- Every word is below `n`. Below 16 none is a variable.
+-- Every word is below `n`. Below 16 none is a variable; 2,048 is above every word that means something.
 unfoldable pub Below : ℕ → List ℕ → Type 0
 Below n [] = Unit
 Below n (w ∷ ws) = (w < n) × Below n ws
@@ -48,6 +48,12 @@ Plain ws = Below 2048 ws
 unfoldable pub Bounded : Change → List ℕ → Type 0
 Bounded (change.Raise n) u = n ≤ 2048
 Bounded (change.Put c) u = Plain u × (length u ≤ 2048) × (span u 1 ≡ length u) × (c ≡ true → (n : ℕ) → raised n u ≡ u)
+
+-- What is asked by a call that writes the one subterm `source` from `at` on: a place within the output, a source that is one
+-- subterm, short and of small words, and `numbers`, what its change asks.
+abbrev pub Asks : (source out : List ℕ) → ℕ → Type 0 → Type 0
+Asks source out at numbers =
+    (at ≤ length out) × (span source 1 ≡ length source) × (length source ≤ 2048) × Plain source × numbers
 
 -- What follows a word, as the enum has it.
 unfoldable pub shape-of : Shape → ℕ → Type 0

@@ -89,3 +89,7 @@ unfoldable pub Steps : calculus.Next → List ℕ → Stepped → List ℕ → T
 Steps calculus.value out r after = (r ≡ stepped.Value) × (after ≡ out)
 Steps calculus.stuck out r after = (r ≡ stepped.Stuck) × (after ≡ out)
 Steps (calculus.next x) out r after = Arrives (words x) out r after
+
+-- The same of the state whose words are given: whatever term they are, by its step.
+abbrev pub Tells : (state out : List ℕ) → Stepped → (after : List ℕ) → Type 0
+Tells state out r after = (t : Term) → state ≡ words t → Steps (calculus.step t) out r after

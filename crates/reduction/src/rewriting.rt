@@ -8,7 +8,7 @@ ghost use mathlib.Core.Path.{_≡_};
 ghost use Prim.Native.Nat.{_≤_, _+_, _<_};
 ghost use mathlib.Core.List.{[], _∷_};
 ghost use lib.ListN.{length, drop};
-ghost use Rattle.reduction.specs.Rewriting.{Below, Bounded, Plain, changed-word, instantiated, raised, rewritten, shape-of};
+ghost use Rattle.reduction.specs.Rewriting.{Asks, Below, Bounded, Plain, changed-word, instantiated, raised, rewritten, shape-of};
 ghost use Rattle.reduction.specs.Writing.{Rewrites, Writes};
 ghost use Rattle.term.specs.Walk.{span};
 
@@ -152,7 +152,7 @@ fn rewrite_whole(
     out: &mut [u16],
     at: usize,
 ) -> Room
-    requires { ⌜ (at ≤ length (now out)) × (span (now source) 1 ≡ length (now source)) × (length (now source) ≤ 2048) × Plain (now source) × Bounded change (now argument) ⌝ }
+    requires { ⌜ Asks (now source) (now out) at (Bounded change (now argument)) ⌝ }
     ensures { λ r. ⌜ Writes (rewritten (changed-word change (now (argument .entry))) (now (source .entry)) (0 ∷ [])) (now (out .entry)) at r (now (out .exit)) ⌝ }
 {
     let count = last_variable(source);
@@ -162,9 +162,9 @@ fn rewrite_whole(
     }
 }
 
-// Writes the one subterm that `source` is with its free variables raised.
+// Writes the one subterm that `source` is with its free variables raised. Raising takes no argument: an empty one is passed.
 pub fn raise(source: &[u16], by: u16, out: &mut [u16], at: usize) -> Room
-    requires { ⌜ (at ≤ length (now out)) × (span (now source) 1 ≡ length (now source)) × (length (now source) ≤ 2048) × Plain (now source) × (by ≤ 2048) ⌝ }
+    requires { ⌜ Asks (now source) (now out) at (by ≤ 2048) ⌝ }
     ensures { λ r. ⌜ Writes (raised by (now (source .entry))) (now (out .entry)) at r (now (out .exit)) ⌝ }
 {
     rewrite_whole(source, Change::Raise(by), &source[..0], out, at)
@@ -178,7 +178,7 @@ pub fn substitute(
     out: &mut [u16],
     at: usize,
 ) -> Room
-    requires { ⌜ (at ≤ length (now out)) × (span (now source) 1 ≡ length (now source)) × (length (now source) ≤ 2048) × Plain (now source) × Bounded (Change.Put closed) (now argument) ⌝ }
+    requires { ⌜ Asks (now source) (now out) at (Bounded (Change.Put closed) (now argument)) ⌝ }
     ensures { λ r. ⌜ Writes (instantiated (now (argument .entry)) (now (source .entry))) (now (out .entry)) at r (now (out .exit)) ⌝ }
 {
     rewrite_whole(source, Change::Put(closed), argument, out, at)

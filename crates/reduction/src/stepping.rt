@@ -11,14 +11,13 @@ ghost use mathlib.Core.List.{_++_};
 ghost use lib.ListN.{length, take, drop};
 ghost use Rattle.calculus.specs.Term.{Term};
 ghost use Rattle.calculus.specs.Words.{words};
-ghost use Rattle.calculus.specs.Step as calculus;
 ghost use Rattle.term.specs.Walk.{span};
 ghost use Rattle.reduction.specs.Rewriting.{Bounded, Plain, instantiated};
 ghost use Rattle.reduction.specs.declared.rewriting.Change.the-variants.{Put};
-ghost use Rattle.reduction.specs.Stepping.{Arrives, Coded, Codes, Finishes, Located, Steps, heads, locate};
+ghost use Rattle.reduction.specs.Stepping.{Arrives, Coded, Codes, Finishes, Located, Tells, heads, locate};
 
 // Where a state steps and by which rule: the place of the application, of the down cast or of the recursion.
-pub enum Redex {
+enum Redex {
     Value,
     Stuck,
     Beta(usize),
@@ -52,7 +51,7 @@ fn leading(state: &[u16]) -> usize
 }
 
 // The redex of a state.
-pub fn find_redex(state: &[u16]) -> Redex
+fn find_redex(state: &[u16]) -> Redex
     requires { ⌜ Coded (now state) ⌝ }
     ensures { λ r. ⌜ ((t : Term) → now (state .entry) ≡ words t → r ≡ locate t) ⌝ }
 {
@@ -135,7 +134,7 @@ fn finish(rest: &[u16], out: &mut [u16], at: usize) -> Stepped
 // S_BETA at the application at `at`.
 fn beta(state: &[u16], at: usize, closed: bool, out: &mut [u16]) -> Stepped
     requires { ⌜ Codes (now state) closed × Located (now state) (Redex.Beta at) ⌝ }
-    ensures { λ r. ⌜ ((t : Term) → now (state .entry) ≡ words t → Steps (calculus.step t) (now (out .entry)) r (now (out .exit))) ⌝ }
+    ensures { λ r. ⌜ Tells (now (state .entry)) (now (out .entry)) r (now (out .exit)) ⌝ }
 {
     let annotation = at + 2;
     let body = annotation + span(&state[annotation..]);
@@ -155,7 +154,7 @@ fn beta(state: &[u16], at: usize, closed: bool, out: &mut [u16]) -> Stepped
 // S_MU at the recursion at `at`.
 fn unfold(state: &[u16], at: usize, closed: bool, out: &mut [u16]) -> Stepped
     requires { ⌜ Codes (now state) closed × Located (now state) (Redex.Unfold at) ⌝ }
-    ensures { λ r. ⌜ ((t : Term) → now (state .entry) ≡ words t → Steps (calculus.step t) (now (out .entry)) r (now (out .exit))) ⌝ }
+    ensures { λ r. ⌜ Tells (now (state .entry)) (now (out .entry)) r (now (out .exit)) ⌝ }
 {
     let annotation = at + 1;
     let body = annotation + span(&state[annotation..]);
@@ -174,7 +173,7 @@ fn unfold(state: &[u16], at: usize, closed: bool, out: &mut [u16]) -> Stepped
 // S_CASTDOWNUP at the down cast at `at`.
 fn cancel(state: &[u16], at: usize, out: &mut [u16]) -> Stepped
     requires { ⌜ Located (now state) (Redex.Cancel at) ⌝ }
-    ensures { λ r. ⌜ ((t : Term) → now (state .entry) ≡ words t → Steps (calculus.step t) (now (out .entry)) r (now (out .exit))) ⌝ }
+    ensures { λ r. ⌜ Tells (now (state .entry)) (now (out .entry)) r (now (out .exit)) ⌝ }
 {
     let annotation = at + 2;
     let body = annotation + span(&state[annotation..]);
@@ -187,7 +186,7 @@ fn cancel(state: &[u16], at: usize, out: &mut [u16]) -> Stepped
 // The next state of `state`, written to the front of `out`; `closed` where the state is a closed term.
 pub fn step(state: &[u16], closed: bool, out: &mut [u16]) -> Stepped
     requires { ⌜ Codes (now state) closed ⌝ }
-    ensures { λ r. ⌜ ((t : Term) → now (state .entry) ≡ words t → Steps (calculus.step t) (now (out .entry)) r (now (out .exit))) ⌝ }
+    ensures { λ r. ⌜ Tells (now (state .entry)) (now (out .entry)) r (now (out .exit)) ⌝ }
 {
     match find_redex(state) {
         Redex::Value => Stepped::Value,

@@ -1,4 +1,5 @@
--- `last_variable` meets its contract. The loop's invariant: behind the first `count` words there is no variable.
+-- `last_variable` meets its contract. The loop's invariant: behind the first `count` words there is no variable; a turn passes
+-- one word more, which is none.
 use Prim.Native.Nat.{_≤_}
 use mathlib.Core.Path.{_≡_, subst}
 use native.Mathlib.Nat.{le-refl}

@@ -1,4 +1,4 @@
--- `shape_of` meets its contract: each arm answers the shape of the meanings that it stands for.
+-- `shape_of` meets its contract: all variants of an arm have the same parts, and these are the shape that the arm answers.
 use Prim.Native.Nat.{ℕ, _<_}
 use mathlib.Core.List.{List, [], _∷_}
 use mathlib.Core.Path.{_≡_, refl, sym, ap, _∙_}

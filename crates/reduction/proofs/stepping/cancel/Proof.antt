@@ -9,8 +9,8 @@ use lib.Seq.{length-take-le}
 use Rattle.calculus.specs.Term.{Term, castup, castdown, size}
 use Rattle.calculus.specs.Words.{emit}
 use Rattle.calculus.specs.Step.{cancelled, step, under}
-use Rattle.reduction.proofs.Wrote.{Wrote, wrote-of, lacked-of, lacked-more}
-use Rattle.reduction.proofs.Arrivals.{next-within, arrives-short, arrives}
+use Rattle.reduction.proofs.Wrote.{Wrote, wrote-of, lacked-of, lacked-more, next-within}
+use Rattle.reduction.proofs.Arrivals.{arrives-short, arrives}
 use Rattle.reduction.proofs.Spans.{further, Spanned, walked}
 use Rattle.reduction.proofs.Placing.{Placed, placed-within, cancel-placed, reaches}
 use Rattle.reduction.proofs.stepping.cancel.Statement.{statement}

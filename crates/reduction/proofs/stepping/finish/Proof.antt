@@ -1,4 +1,4 @@
--- `finish` meets its contract: the answer of `copy` is its own.
+-- `finish` meets its contract: it writes what `copy` writes, and answers where that ended.
 use mathlib.Core.Path.{ap}
 use borrow.Author.Needs.{needs}
 use Rattle.reduction.proofs.Arrivals.{answer, finishes}

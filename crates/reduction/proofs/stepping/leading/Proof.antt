@@ -1,5 +1,5 @@
--- `leading` meets its contract. The loop's invariant: the words passed are all down casts and applications, so that those of the
--- whole list are as many and those of what is left.
+-- `leading` meets its contract. The loop's invariant: the words passed are all down casts and applications, so the list begins
+-- with as many as were passed and then with those that the rest begins with.
 use Prim.Native.Nat.{ℕ, suc, _+_, _-_, _≤_}
 use mathlib.Core.Bool.{Bool, true, false, cond}
 use mathlib.Core.List.{List, [], _∷_}

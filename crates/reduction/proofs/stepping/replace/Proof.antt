@@ -6,8 +6,8 @@ use lib.ListN.{take}
 use lib.Seq.{length-take-le}
 use borrow.Author.Needs.{needs}
 use Rattle.reduction.specs.Rewriting.{instantiated}
-use Rattle.reduction.proofs.Wrote.{Wrote, wrote-of, lacked-of, wrote-both, wrote-lacked, lacked-more}
-use Rattle.reduction.proofs.Arrivals.{next-within, arrives-short, arrives}
+use Rattle.reduction.proofs.Wrote.{Wrote, wrote-of, lacked-of, wrote-both, wrote-lacked, lacked-more, next-within}
+use Rattle.reduction.proofs.Arrivals.{arrives-short, arrives}
 use Rattle.reduction.proofs.stepping.replace.Statement.{statement}
 use Rattle.reduction.proofs.stepping.replace.Tie as tie
 

@@ -57,9 +57,6 @@ returns-2 c =
     let leaf = seen (c .before .before .before) (c .before .enum-told .given .1) in
     turn-last (i .before .loop .inv) (i .loop-test .taken) (c .if1 .taken) leaf
 
-sub-waiting : tie.Need-sub-waiting Inv-loop μ-loop
-sub-waiting c = pos-of-ne-zero (c .if1 .left)
-
 array-read-from-byte : tie.Need-array-read-from-byte Inv-loop μ-loop
 array-read-from-byte c =
     let i = c .before .before .before .before .before .before .loop .inv in
@@ -123,7 +120,7 @@ read-first-spec =
     tie.close
     (tie.spec
     Inv-loop μ-loop loop-holds (λ c. search needs) (λ c. search needs) (λ c κs. search needs) (λ c. search needs) returns
-    (λ c. search needs) (λ c. search needs) returns-2 sub-waiting array-read-from-byte (λ c κs. search needs)
+    (λ c. search needs) (λ c. search needs) returns-2 (λ c. search needs) array-read-from-byte (λ c κs. search needs)
     array-read-from-byte-2 (λ c κs. search needs) (λ c. search needs) sub-room (λ c. search needs) sub-room-2 to-byte-requires
     array-write-rooms add-to-byte to-byte-requires-2 array-write-scopes add-waiting (λ c. search needs) loop-less loop-again
     returns-3)

@@ -37,9 +37,6 @@ word c =
 add-left : tie.Need-add-left Inv-loop μ-loop
 add-left c = omega (arith, c .parts .ensures, two-at-most (word c))
 
-sub-left : tie.Need-sub-left Inv-loop μ-loop
-sub-left c = omega (arith, pos-of-ne-zero (c .before .before .before .if1 .left))
-
 loop-again : tie.Need-loop-again Inv-loop μ-loop
 loop-again c =
     let i = c .before .before .before .before .before in
@@ -63,5 +60,5 @@ pub span-spec : {M : Type 1} → statement M
 span-spec =
     tie.close
     (tie.spec
-    Inv-loop μ-loop loop-holds returns (λ c. search needs) (λ c. search needs) (λ c κs. search needs) add-left sub-left
+    Inv-loop μ-loop loop-holds returns (λ c. search needs) (λ c. search needs) (λ c κs. search needs) add-left (λ c. search needs)
     (λ c. search needs) (λ c. search needs) loop-again returns-2)

@@ -38,36 +38,24 @@ abbrev pub μ-rewrite-whole : Measures 3 rewrite-whole-kinds.ps ℕ
 abbrev pub rewrite-at : ℕ → In 3 rewrite-kinds.ps
 rewrite-at t = and 3 rewrite-kinds.ps (is 3 rewrite-kinds.ps μ-rewrite t) rewrite.Pre
 
-abbrev pub rewrite-below : ℕ → In 3 rewrite-kinds.ps
+abbrev rewrite-below : ℕ → In 3 rewrite-kinds.ps
 rewrite-below t = and 3 rewrite-kinds.ps (falls 3 rewrite-kinds.ps _<_ μ-rewrite t) rewrite.Pre
 
 abbrev pub rewrite-variable-at : ℕ → In 2 rewrite-variable-kinds.ps
 rewrite-variable-at t =
-    and
-    2
-    rewrite-variable-kinds.ps
-    (is 2 rewrite-variable-kinds.ps μ-rewrite-variable t)
-    rewrite-variable.Pre
+    and 2 rewrite-variable-kinds.ps (is 2 rewrite-variable-kinds.ps μ-rewrite-variable t) rewrite-variable.Pre
 
-abbrev pub rewrite-variable-below : ℕ → In 2 rewrite-variable-kinds.ps
+abbrev rewrite-variable-below : ℕ → In 2 rewrite-variable-kinds.ps
 rewrite-variable-below t =
-    and
-    2
-    rewrite-variable-kinds.ps
-    (falls 2 rewrite-variable-kinds.ps _<_ μ-rewrite-variable t)
-    rewrite-variable.Pre
+    and 2 rewrite-variable-kinds.ps (falls 2 rewrite-variable-kinds.ps _<_ μ-rewrite-variable t) rewrite-variable.Pre
 
 abbrev pub rewrite-whole-at : ℕ → In 3 rewrite-whole-kinds.ps
 rewrite-whole-at t =
     and 3 rewrite-whole-kinds.ps (is 3 rewrite-whole-kinds.ps μ-rewrite-whole t) rewrite-whole.Pre
 
-abbrev pub rewrite-whole-below : ℕ → In 3 rewrite-whole-kinds.ps
+abbrev rewrite-whole-below : ℕ → In 3 rewrite-whole-kinds.ps
 rewrite-whole-below t =
-    and
-    3
-    rewrite-whole-kinds.ps
-    (falls 3 rewrite-whole-kinds.ps _<_ μ-rewrite-whole t)
-    rewrite-whole.Pre
+    and 3 rewrite-whole-kinds.ps (falls 3 rewrite-whole-kinds.ps _<_ μ-rewrite-whole t) rewrite-whole.Pre
 
 abbrev pub rewrite-claims : ℕ → rewrite-lts.Claims
 rewrite-claims t =

@@ -1,6 +1,6 @@
 -- The loop of `rewrite`: its invariant and measure, and what is known of the word of a turn by its shape. A variable has no
 -- parts, and any other word stands for itself.
-use Prim.Native.Nat.{ℕ, _+_, _-_, _≤_}
+use Prim.Native.Nat.{ℕ, _+_, _-_, _≤_, _<_}
 use mathlib.Core.List.{List, [], _∷_}
 use mathlib.Core.Path.{_≡_}
 use native.Mathlib.Omega.{arith}
@@ -23,8 +23,20 @@ abbrev pub μ-loop : lts.MeasureT-loop
 μ-loop source around change argument before from at₀ read₀ depth₀ out at read depth = length source - read
 
 module _ (t : ℕ) where
-  -- The word of the turn, and what stands for it.
+  -- Where the turn stands, that there is a word, which it is, and what stands for it.
   module _ (s : lts.After-shape-of (rewrite-claims t) (rewrite-at t) reads.Post Inv-loop μ-loop) where
+    pub turn :
+        let l = s .before .before .before in
+        let a = l .before .before .before .before .args in
+        let f = changed-word (a .change) (a .argument .now) in
+        Turn f (a .source .now) (a .around) (a .out .now) (a .from) (l .loop .out) (l .loop .at) (l .loop .read) (l .loop .depth)
+    turn = s .before .before .before .loop .inv
+
+    pub more :
+        let l = s .before .before .before in
+        l .loop .read < length (l .before .before .before .before .args .source .now)
+    more = s .before .before .loop-test .taken
+
     abbrev pub word : ℕ
     word =
         let l = s .before .before .before in

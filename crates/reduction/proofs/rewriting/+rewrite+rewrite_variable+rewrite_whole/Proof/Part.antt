@@ -12,23 +12,22 @@ use Rattle.reduction.proofs.Wrote.{rewrote-of, relacked-of, written-sho
 use Rattle.reduction.proofs.rewriting.rewrite.Reads as reads
 use Rattle.reduction.proofs.rewriting.+rewrite+rewrite_variable+rewrite_whole.Lts-rewrite as lts
 use Rattle.reduction.proofs.rewriting.+rewrite+rewrite_variable+rewrite_whole.Proof.Claims.{rewrite-at, rewrite-claims}
-use Rattle.reduction.proofs.rewriting.+rewrite+rewrite_variable+rewrite_whole.Proof.Loop.{Inv-loop, μ-loop, still, two}
+use Rattle.reduction.proofs.rewriting.+rewrite+rewrite_variable+rewrite_whole.Proof.Loop.{Inv-loop, μ-loop, turn, more, still, two}
 
 module _ (t : ℕ) where
   pub rewrite-requires : lts.Need-rewrite-requires (rewrite-claims t) (rewrite-at t) reads.Post Inv-loop μ-loop
   rewrite-requires c κs =
       let s = c .before .before .before .before .before .before .before in
       let start = s .before .before .before .before .before .before .before in
-      let l = s .before .before .before .loop in
-      let more = s .before .before .loop-test .taken in
+      let next = s .before .before .before .loop .read + 1 in
       let ws = start .args .source .now in
-      let part = from-on ws (l .read + 1) in
-      let count = ap length part ∙ length-drop (l .read + 1) ws in (
-        omega (arith, start .pre .0, count, more),
+      let part = from-on ws next in
+      let count = ap length part ∙ length-drop next ws in (
+        omega (arith, start .pre .0, count, more t s),
         (
           simp length-set (omega (arith, c .before .before .before .before .before .if1 .left)),
-          omega (arith, l .inv .shallow, count, more),
-          rw part (below-drop 2048 (l .read + 1) ws (start .pre .1 .2)),
+          omega (arith, turn t s .shallow, count, more t s),
+          rw part (below-drop 2048 next ws (start .pre .1 .2)),
           start .pre .1 .3,
         ),
       )
@@ -36,9 +35,8 @@ module _ (t : ℕ) where
   pub same-length-5 : lts.Need-same-length-5 (rewrite-claims t) (rewrite-at t) reads.Post Inv-loop μ-loop
   same-length-5 c =
       let call = c .before .before .before .before in
-      let found = call .before .before .before .before in
-      let turn = found .before .before .before .before .before .before .before .loop .inv in
-      call .rewrite .kept .1 .1 .1 .1 .0 ∙ simp length-set (turn-length turn)
+      let s = call .before .before .before .before .before .before .before .before in
+      call .rewrite .kept .1 .1 .1 .1 .0 ∙ simp length-set (turn-length (turn t s))
 
   pub returns-5 : lts.Need-returns-5 (rewrite-claims t) (rewrite-at t) reads.Post Inv-loop μ-loop
   returns-5 c =
@@ -46,10 +44,8 @@ module _ (t : ℕ) where
       let found = call .before .before .before .before in
       let node = found .before .before in
       let s = node .before .before in
-      let turn = s .before .before .before .loop .inv in
-      let more = s .before .before .loop-test .taken in
-      let l = relacked-of (call .rewrite .ensures) (c .enum-told3 .given .1) in
-      written-short (part-lacked turn more (still t (node .before)) (node .if1 .left) (two t found .0) (rw from-on at l))
+      let l = rw from-on at (relacked-of (call .rewrite .ensures) (c .enum-told3 .given .1)) in
+      written-short (part-lacked (turn t s) (more t s) (still t (node .before)) (node .if1 .left) (two t found .0) l)
 
   pub add-read-2 : lts.Need-add-read-2 (rewrite-claims t) (rewrite-at t) reads.Post Inv-loop μ-loop
   add-read-2 c =
@@ -65,14 +61,14 @@ module _ (t : ℕ) where
         span-le (drop next ws) 1,
         length-drop next ws,
         start .good .0 .0,
-        s .before .before .loop-test .taken,
+        more t s,
       )
 
   pub add-depth : lts.Need-add-depth (rewrite-claims t) (rewrite-at t) reads.Post Inv-loop μ-loop
   add-depth c =
       let found = c .before .before .before .before .before .before .before .before .before in
       let s = found .before .before .before .before in
-      omega (arith, two t found .1, s .before .before .before .loop .inv .shallow, s .before .before .loop-test .taken)
+      omega (arith, two t found .1, turn t s .shallow, more t s)
 
   pub loop-again-2 : lts.Need-loop-again-2 (rewrite-claims t) (rewrite-at t) reads.Post Inv-loop μ-loop
   loop-again-2 c =
@@ -80,10 +76,8 @@ module _ (t : ℕ) where
       let found = call .before .before .before .before in
       let node = found .before .before in
       let s = node .before .before in
-      let turn = s .before .before .before .loop .inv in
-      let more = s .before .before .loop-test .taken in
       let r = rewrote-of (call .rewrite .ensures) (c .before .more .given .1) in
       let w = rw from-on at (r .1) in
       rw
       (rw from-on at (r .0))
-      (turn-two turn more (still t (node .before)) (node .if1 .left) (two t found .0) (two t found .1) w)
+      (turn-two (turn t s) (more t s) (still t (node .before)) (node .if1 .left) (two t found .0) (two t found .1) w)

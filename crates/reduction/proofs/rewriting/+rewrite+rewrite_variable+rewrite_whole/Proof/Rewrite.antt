@@ -7,13 +7,13 @@ use borrow.Author.Needs.{needs}
 use lib.ListN.{length-set}
 use Rattle.reduction.proofs.Plain.{below-at}
 use Rattle.reduction.proofs.Turns.{turn-first, turn-length, turn-last, leaf-read, leaf-wrote, leaf-lacked, word-lacked, turn-leaf, turn-one}
-use Rattle.reduction.proofs.Wrote.{wrote-of, lacked-of, rewrites-all, written-short}
+use Rattle.reduction.proofs.Wrote.{next-within, wrote-of, lacked-of, rewrites-all, written-short}
 use Rattle.reduction.proofs.rewriting.rewrite.Reads as reads
 use Rattle.reduction.proofs.rewriting.+rewrite+rewrite_variable+rewrite_whole.Lts-rewrite as lts
 use Rattle.reduction.proofs.rewriting.+rewrite+rewrite_variable+rewrite_whole.Proof.Arms.{one-word, last-word}
 use Rattle.reduction.proofs.rewriting.+rewrite+rewrite_variable+rewrite_whole.Proof.Claims.{rewrite-at, rewrite-claims}
 use Rattle.reduction.proofs.rewriting.+rewrite+rewrite_variable+rewrite_whole.Proof.Part as part
-use Rattle.reduction.proofs.rewriting.+rewrite+rewrite_variable+rewrite_whole.Proof.Loop.{Inv-loop, μ-loop, index, alone, still}
+use Rattle.reduction.proofs.rewriting.+rewrite+rewrite_variable+rewrite_whole.Proof.Loop.{Inv-loop, μ-loop, turn, more, index, alone, still}
 
 module _ (t : ℕ) where
   loop-holds : lts.Need-loop-holds (rewrite-claims t) (rewrite-at t) reads.Post Inv-loop μ-loop
@@ -30,14 +30,13 @@ module _ (t : ℕ) where
   rewrite-variable-requires c κs =
       let s = c .before .before .before .before in
       let start = s .before .before .before .before .before .before .before in
-      let l = s .before .before .before .loop in
-      let more = s .before .before .loop-test .taken in
-      let small = below-at 2048 (start .args .source .now) (l .read) (start .pre .1 .2) more in (
-        omega (arith, start .pre .0, more),
+      let read = s .before .before .before .loop .read in
+      let small = below-at 2048 (start .args .source .now) read (start .pre .1 .2) (more t s) in (
+        omega (arith, start .pre .0, more t s),
         (
-          omega (arith, l .inv .wrote .room, l .inv .wrote .place, turn-length (l .inv)),
+          next-within (turn t s .wrote),
           omega (arith, small, index t (c .before .before)),
-          omega (arith, l .inv .shallow, more),
+          omega (arith, turn t s .shallow, more t s),
           start .pre .1 .3,
         ),
       )
@@ -45,34 +44,30 @@ module _ (t : ℕ) where
   same-length : lts.Need-same-length (rewrite-claims t) (rewrite-at t) reads.Post Inv-loop μ-loop
   same-length c =
       let call = c .before .before .before .before in
-      let turn = call .before .before .before .before .before .before .before .before .loop .inv in
-      call .rewrite-variable .kept .1 .1 .1 .1 .0 ∙ turn-length turn
+      call .rewrite-variable .kept .1 .1 .1 .1 .0 ∙ turn-length (turn t (call .before .before .before .before .before))
 
   returns : lts.Need-returns (rewrite-claims t) (rewrite-at t) reads.Post Inv-loop μ-loop
   returns c =
       let call = c .before .before .before .before in
       let found = call .before .before .before in
       let s = found .before .before in
-      let turn = s .before .before .before .loop .inv in
-      let more = s .before .before .loop-test .taken in
       let l = lacked-of (call .rewrite-variable .ensures) (c .enum-told .given .1) in
-      written-short (leaf-lacked turn more (alone t found) (rw (← index t found) at l))
+      written-short (leaf-lacked (turn t s) (more t s) (alone t found) (rw (← index t found) at l))
 
   same-length-2 : lts.Need-same-length-2 (rewrite-claims t) (rewrite-at t) reads.Post Inv-loop μ-loop
   same-length-2 c =
       let call = c .before .before .before .before .before in
-      let turn = call .before .before .before .before .before .before .before .before .loop .inv in
-      call .rewrite-variable .kept .1 .1 .1 .1 .0 ∙ turn-length turn
+      call .rewrite-variable .kept .1 .1 .1 .1 .0 ∙ turn-length (turn t (call .before .before .before .before .before))
 
   returns-2 : lts.Need-returns-2 (rewrite-claims t) (rewrite-at t) reads.Post Inv-loop μ-loop
   returns-2 c =
       let call = c .before .before .before .before .before in
       let found = call .before .before .before in
       let s = found .before .before in
-      let turn = s .before .before .before .loop .inv in
-      let more = s .before .before .loop-test .taken in
-      let w = wrote-of (call .rewrite-variable .ensures) (c .before .next .given .1) in
-      rewrites-all (leaf-read turn more (alone t found)) (leaf-wrote turn more (alone t found) (rw (← index t found) at w))
+      let w = rw (← index t found) at (wrote-of (call .rewrite-variable .ensures) (c .before .next .given .1)) in
+      rewrites-all
+      (leaf-read (turn t s) (more t s) (alone t found))
+      (leaf-wrote (turn t s) (more t s) (alone t found) w)
 
   same-length-3 : lts.Need-same-length-3 (rewrite-claims t) (rewrite-at t) reads.Post Inv-loop μ-loop
   same-length-3 c = turn-length (c .before .before .before .before .before .loop .inv)
@@ -80,9 +75,7 @@ module _ (t : ℕ) where
   returns-3 : lts.Need-returns-3 (rewrite-claims t) (rewrite-at t) reads.Post Inv-loop μ-loop
   returns-3 c =
       let s = c .before .before in
-      let turn = s .before .before .before .loop .inv in
-      let more = s .before .before .loop-test .taken in
-      written-short (word-lacked turn more (still t (c .before)) (c .if1 .taken))
+      written-short (word-lacked (turn t s) (more t s) (still t (c .before)) (c .if1 .taken))
 
   same-length-4 : lts.Need-same-length-4 (rewrite-claims t) (rewrite-at t) reads.Post Inv-loop μ-loop
   same-length-4 c = simp length-set (turn-length (c .before .before .before .before .before .before .loop .inv))
@@ -90,18 +83,16 @@ module _ (t : ℕ) where
   returns-4 : lts.Need-returns-4 (rewrite-claims t) (rewrite-at t) reads.Post Inv-loop μ-loop
   returns-4 c =
       let s = c .before .before .before in
-      let turn = s .before .before .before .loop .inv in
-      let more = s .before .before .loop-test .taken in
       let none = last-word (s .shape-of .result) _ (s .shape-of .ensures) (c .match3 .keys1) in
-      rewrites-all (leaf-read turn more none) (turn-leaf turn more (still t (c .before .before)) (c .before .if1 .left) none)
+      rewrites-all
+      (leaf-read (turn t s) (more t s) none)
+      (turn-leaf (turn t s) (more t s) (still t (c .before .before)) (c .before .if1 .left) none)
 
   loop-again : lts.Need-loop-again (rewrite-claims t) (rewrite-at t) reads.Post Inv-loop μ-loop
   loop-again c =
       let s = c .before .before .before .before in
-      let turn = s .before .before .before .loop .inv in
-      let more = s .before .before .loop-test .taken in
       let one = one-word _ (c .enum-told2 .given .1) (s .shape-of .ensures) in
-      turn-one turn more (still t (c .before .before .before)) (c .before .before .if1 .left) one
+      turn-one (turn t s) (more t s) (still t (c .before .before .before)) (c .before .before .if1 .left) one
 
   same-length-6 : lts.Need-same-length-6 (rewrite-claims t) (rewrite-at t) reads.Post Inv-loop μ-loop
   same-length-6 c = turn-length (c .before .loop .inv)

@@ -11,7 +11,7 @@ use Rattle.reduction.specs.Rewriting.{changed-word, rewritten}
 use Rattle.reduction.proofs.Changes.{unchanged}
 use Rattle.reduction.proofs.Plain.{below-take, below-at}
 use Rattle.reduction.proofs.Tails.{rewritten-tail}
-use Rattle.reduction.proofs.Wrote.{rewrote-of, relacked-of, length-wrote, lacked-more, written-short, written-then}
+use Rattle.reduction.proofs.Wrote.{rewrote-of, relacked-of, next-within, lacked-more, written-short, written-then}
 use Rattle.reduction.proofs.rewriting.rewrite_whole.Reads as reads
 use Rattle.reduction.proofs.rewriting.+rewrite+rewrite_variable+rewrite_whole.Lts-rewrite_whole as lts
 use Rattle.reduction.proofs.rewriting.+rewrite+rewrite_variable+rewrite_whole.Proof.Claims.{rewrite-whole-at, rewrite-whole-claims}
@@ -55,8 +55,7 @@ module _ (t : ℕ) where
   copy-requires : lts.Need-copy-requires (rewrite-whole-claims t) (rewrite-whole-at t) reads.Post
   copy-requires c κs =
       let next = c .before .before .before in
-      let w = rewrote-of (next .before .before .before .before .rewrite .ensures) (next .next .given .1) .1 in
-      omega (arith, length-wrote w)
+      next-within (rewrote-of (next .before .before .before .before .rewrite .ensures) (next .next .given .1) .1)
 
   returns : lts.Need-returns (rewrite-whole-claims t) (rewrite-whole-at t) reads.Post
   returns c =
