@@ -35,22 +35,29 @@ pub record Reach (from sub next room : ℕ) : Type 0 where
 abbrev pub Node : (t : ℕ) → application-lts.Start (application-claims t) (application-at t) application.Post → Context → Term → Term → Type 0
 Node t start Γ f u = Subject Γ (app f u) (start .args .term .now) (start .args .sub .now) (start .args .context .now) (start .args .depth)
 
+-- The start, from where the function is typed; and that place, from where both parts are.
+abbrev pub start-place : (t : ℕ) → application-lts.After-function (application-claims t) (application-at t) application.Post → application-lts.Start (application-claims t) (application-at t) application.Post
+start-place t c = c .before .before .before .before .before .before .before .before .before .before .before
+
+abbrev pub function-place : (t : ℕ) → application-lts.After-known-told2 (application-claims t) (application-at t) application.Post → application-lts.After-function (application-claims t) (application-at t) application.Post
+function-place t c = c .before .before .before .before .before .before .before .before .before .before .before .before .before .before
+
 -- The function is typed.
 pub typed-function : (t : ℕ) (c : application-lts.After-function (application-claims t) (application-at t) application.Post) (Γ : Context) (f u : Term)
-    → let after-infer = c .before .before .before .before in
-    let start = after-infer .before .before .before .before .before .before .before in
+    → let function-infer = c .before .before .before .before .infer in
+    let start = start-place t c in
     Node t start Γ f u
     → Part (infer (start .args .limit) Γ (length (start .args .term .now) - length (behind 1 (start .args .sub .now))) f) f
     (start .args .context .now) (start .args .depth) (start .args .work .now) (start .args .top) (c .function .given .0 .0)
-    (c .function .given .0 .1 .0) (after-infer .infer .last .1 .1 .1 .1 .0) (after-infer .infer .last .1 .1 .0)
+    (c .function .given .0 .1 .0) (function-infer .last .1 .1 .1 .1 .0) (function-infer .last .1 .1 .0)
 typed-function t c Γ f u S = typed (c .before .before .before .before .infer .ensures Γ f (first S of-app)) (c .function .given .1)
 
 pub reach : (t : ℕ) (c : application-lts.After-enum-told2 (application-claims t) (application-at t) application.Post)
-    → let start = c .before .before .before .before .before .before .before .before .before .before .before .before .before .before .before .before in
+    → let start = start-place t (c .before .before .before .before .before) in
     let function = c .before .before .before .before .before .function .given .0 in
     Reach (1 + function .0) (length (start .args .sub .now)) (start .args .top + function .1 .0) (length (start .args .work .now))
 reach t c =
-    let start = c .before .before .before .before .before .before .before .before .before .before .before .before .before .before .before .before in
+    let start = start-place t (c .before .before .before .before .before) in
     let P = start .pre .1 in
     let function = typed-function t (c .before .before .before .before .before) (P .0) (P .1) (P .2) (P .3) in
     let fits = type-fits (first (P .3) of-app) _ _ (function .found) in
@@ -61,16 +68,9 @@ reach t c =
       small = start .good .1 .1 .1 .1 .0 .1;
     }
 
--- From where both are typed: the place where the function was, and the start.
-abbrev pub function-place : (t : ℕ) → application-lts.After-known-told2 (application-claims t) (application-at t) application.Post → application-lts.After-function (application-claims t) (application-at t) application.Post
-function-place t c = c .before .before .before .before .before .before .before .before .before .before .before .before .before .before
-
-abbrev pub start-place : (t : ℕ) → application-lts.After-known-told2 (application-claims t) (application-at t) application.Post → application-lts.Start (application-claims t) (application-at t) application.Post
-start-place t c = function-place t c .before .before .before .before .before .before .before .before .before .before .before
-
 pub calls : (t : ℕ) (c : application-lts.After-known-told2 (application-claims t) (application-at t) application.Post) (Γ : Context) (f u : Term)
     → let function = function-place t c .function .given .0 in
-    let start = start-place t c in
+    let start = start-place t (function-place t c) in
     Node t start Γ f u
     → Called (start .args .limit) Γ (length (start .args .term .now) - length (start .args .sub .now)) f u
     (start .args .context .now) (start .args .depth) (start .args .work .now) (start .args .top)
@@ -85,17 +85,17 @@ calls t c Γ f u S =
 
 -- The slice is as long as it was.
 pub long : (t : ℕ) (c : application-lts.After-known-told2 (application-claims t) (application-at t) application.Post)
-    → length (c .before .before .before .before .before .infer2 .last .1 .1 .1 .1 .0) ≡ length (start-place t c .args .work .now)
+    → length (c .before .before .before .before .before .infer2 .last .1 .1 .1 .1 .0) ≡ length (start-place t (function-place t c) .args .work .now)
 long t c = c .before .before .before .before .before .infer2 .kept .1 .1 .1 .1 .0 ∙ function-place t c .before .before .before .before .infer .kept .1 .1 .1 .1 .0
 
 -- The words up to the end of the argument, the room up to its type, and a first word of the function's type.
 pub reach-both : (t : ℕ) (c : application-lts.After-known-told2 (application-claims t) (application-at t) application.Post)
     → let function = function-place t c .function .given .0 in
-    let start = start-place t c in
+    let start = start-place t (function-place t c) in
     Reach (1 + function .0 + c .before .argument .given .0 .0) (length (start .args .sub .now)) (start .args .top + function .1 .0) (length (start .args .work .now))
     × (1 ≤ function .1 .0)
 reach-both t c =
-    let start = start-place t c in
+    let start = start-place t (function-place t c) in
     let P = start .pre .1 in
     let F = reach t (c .before .before .before .before .before .before .before .before .before) in
     let C = calls t c (P .0) (P .1) (P .2) (P .3) in (
@@ -110,14 +110,14 @@ reach-both t c =
 
 pub domain-long : (t : ℕ) (c : application-lts.After-span (application-claims t) (application-at t) application.Post) (Γ : Context) (f u : Term)
     → let after-argument = c .before .before .before in
-    let start = start-place t after-argument in
+    let start = start-place t (function-place t after-argument) in
     (S : Node t start Γ f u)
     → c .span .result ≡ size (calls t after-argument Γ f u S .domain)
 domain-long t c Γ f u S = c .span .ensures .0 ∙ domain-span (calls t (c .before .before .before) Γ f u S)
 
 pub measured : (t : ℕ) (c : application-lts.Else2 (application-claims t) (application-at t) application.Post) (Γ : Context) (f u : Term)
     → let after-argument = c .before .before .before .before .before .before .before in
-    let start = start-place t after-argument in
+    let start = start-place t (function-place t after-argument) in
     (S : Node t start Γ f u)
     → let p = length (start .args .term .now) - length (start .args .sub .now) in
     infer (start .args .limit) Γ p (app f u) ≡ measure (start .args .limit) p (substitute 0 u (calls t after-argument Γ f u S .codomain))
@@ -129,7 +129,7 @@ measured t c Γ f u S =
 
 pub puts : (t : ℕ) (c : application-lts.After-put-in (application-claims t) (application-at t) application.Post) (Γ : Context) (f u : Term)
     → let after-argument = c .before .before .before .before .before .before .before .before .before .before in
-    let start = start-place t after-argument in
+    let start = start-place t (function-place t after-argument) in
     (S : Node t start Γ f u)
     → Puts (substitute 0 u (calls t after-argument Γ f u S .codomain))
     (after-argument .before .before .before .before .before .infer2 .last .1 .1 .1 .1 .0) (start .args .top) (start .args .limit)
@@ -145,5 +145,5 @@ puts t c Γ f u S =
 
 -- It is still as long once the codomain is written.
 pub long-put : (t : ℕ) (c : application-lts.After-put-in (application-claims t) (application-at t) application.Post)
-    → length (c .put-in .last .1 .1 .0) ≡ length (start-place t (c .before .before .before .before .before .before .before .before .before .before) .args .work .now)
+    → length (c .put-in .last .1 .1 .0) ≡ length (start-place t (function-place t (c .before .before .before .before .before .before .before .before .before .before)) .args .work .now)
 long-put t c = c .put-in .kept .1 .1 .0 ∙ long t (c .before .before .before .before .before .before .before .before .before .before)

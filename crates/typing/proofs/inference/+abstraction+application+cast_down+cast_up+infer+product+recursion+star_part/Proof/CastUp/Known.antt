@@ -13,6 +13,7 @@ use Rattle.calculus.specs.Words.{words, longest}
 use Rattle.calculus.specs.Rules.{Context}
 use Rattle.calculus.specs.Step.{step}
 use Rattle.typing.specs.Inference.{Subject, star-typed}
+use Rattle.typing.specs.Moving.{Moves}
 use Rattle.typing.proofs.Nodes.{of-castup}
 use Rattle.typing.proofs.Subjects.{behind, first}
 use Rattle.typing.proofs.Rooms.{room-two}
@@ -91,17 +92,23 @@ room t c =
     let B = both t c (P .0) (P .1) (P .2) (P .3) in
     omega (arith, B .long, B .fits, room-two (P .4), start .good .1 .1 .1 .1 .0 .1, long t c)
 
+-- What the step writes behind the body's type.
+pub moves : (t : ℕ) (c : cast-up-lts.After-step-into (cast-up-claims t) (cast-up-at t) cast-up.Post) (Γ : Context) (a e : Term)
+    → let after-known-told2 = c .before .before .before in
+    let start = start-place t (annotation-place t after-known-told2) in
+    Node t start Γ a e
+    → Moves (step a) (after-known-told2 .before .before .before .before .before .infer .last .1 .1 .1 .1 .0) (start .args .top + after-known-told2 .before .body .given .0 .1 .0)
+    (start .args .limit) (c .step-into .result) (c .step-into .last .1 .1 .0)
+moves t c Γ a e S = c .step-into .ensures a (copied t (annotation-place t (c .before .before .before)) Γ a e S)
+
 pub next-state : (t : ℕ) (c : cast-up-lts.After-known-told3 (cast-up-claims t) (cast-up-at t) cast-up.Post) (Γ : Context) (a e : Term)
     → let after-step-into = c .before .before .before .before .before in
-    let after-body = after-step-into .before .before .before .before in
-    let after-infer = after-body .before .before .before .before in
-    let start = start-place t (after-infer .before .before .before .before) in
+    let after-known-told2 = after-step-into .before .before .before in
+    let start = start-place t (annotation-place t after-known-told2) in
     Node t start Γ a e
-    → Moved (step a) (after-infer .infer .last .1 .1 .1 .1 .0) (start .args .top + after-body .body .given .0 .1 .0) (start .args .limit) (c .before .count .given .0 .0) (after-step-into .step-into .last .1 .1 .0)
-next-state t c Γ a e S =
-    let after-step-into = c .before .before .before .before .before in
-    let after-known-told = annotation-place t (after-step-into .before .before .before) in
-    moved _ _ _ _ _ (step a) (after-step-into .step-into .ensures a (copied t after-known-told Γ a e S)) (c .before .count .given .1)
+    → Moved (step a) (after-known-told2 .before .before .before .before .before .infer .last .1 .1 .1 .1 .0) (start .args .top + after-known-told2 .before .body .given .0 .1 .0)
+    (start .args .limit) (c .before .count .given .0 .0) (after-step-into .step-into .last .1 .1 .0)
+next-state t c Γ a e S = moved _ _ _ _ _ (step a) (moves t (c .before .before .before .before .before) Γ a e S) (c .before .count .given .1)
 
 pub compared : (t : ℕ) (c : cast-up-lts.After-same (cast-up-claims t) (cast-up-at t) cast-up.Post) (Γ : Context) (a e : Term)
     → let after-known-told2 = c .before .before .before .before .before .before .before .before .before .before .before in
@@ -114,5 +121,5 @@ compared t c Γ a e S =
     let B = both t after-known-told2 Γ a e S in
     let m = next-state t (c .before .before .before) Γ a e S in
     let r = room t after-known-told2 in
-    let long = sym (c .before .before .if1 .left) ∙ m .long in
-    compared-behind _ _ _ (m .state) (B .type) (B .lies) (m .stored) long (omega arith) (c .same .ensures)
+    let as-long = sym (c .before .before .if1 .left) ∙ m .long in
+    compared-behind _ _ _ (m .state) (B .type) (B .lies) (m .stored) as-long (omega arith) (c .same .ensures)

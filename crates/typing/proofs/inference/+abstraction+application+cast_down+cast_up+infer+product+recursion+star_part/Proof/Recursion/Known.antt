@@ -125,5 +125,5 @@ compared t c Γ a e S =
     let B = both t after-known-told2 Γ a e S in
     let x = behind-type t after-raise Γ a e S in
     let r = room t after-known-told2 in
-    let long = else1 .if1 .left ∙ B .read ∙ sym (raise-size 1 0 a) in
-    compared-behind _ _ _ (raise 1 0 a) (B .type) (B .lies) x long (omega arith) (c .same .ensures)
+    let as-long = else1 .if1 .left ∙ B .read ∙ sym (raise-size 1 0 a) in
+    compared-behind _ _ _ (raise 1 0 a) (B .type) (B .lies) x as-long (omega arith) (c .same .ensures)
