@@ -88,7 +88,8 @@ returns-5 : (t : ℕ) → application-lts.Need-returns-5 (application-claims t) 
 returns-5 t c Γ f u S =
     let after-span = c .before .before .before .before .before in
     let C = calls t (after-span .before .before .before) Γ f u S in
-    let compared = compared-argument C (domain-long t after-span Γ f u S) (c .before .before .before .before .if1 .left) (c .before .before .same .ensures) in
+    let as-long = c .before .before .before .before .if1 .left in
+    let compared = compared-argument C (domain-long t after-span Γ f u S) as-long (c .before .before .same .ensures) in
     turned (wrong _ Γ _ f u (C .function) (C .argument) (compared .0 (c .before .if2 .taken))) (c .refused3 .ensures)
 
 put-in-requires : (t : ℕ) → application-lts.Need-put-in-requires (application-claims t) (application-at t) application.Post

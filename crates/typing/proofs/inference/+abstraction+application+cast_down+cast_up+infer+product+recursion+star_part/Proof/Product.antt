@@ -42,7 +42,9 @@ module _ (L : ℕ) (Γ : Context) (p : ℕ) (a b : Term) where
   by-both f g h = rw (f, equal star, g, equal star) (fitting p star h)
 
 -- The start, from where the domain is typed.
-abbrev start-place : (t : ℕ) → product-lts.After-known-told (product-claims t) (product-at t) product.Post → product-lts.Start (product-claims t) (product-at t) product.Post
+abbrev start-place : (t : ℕ)
+    → product-lts.After-known-told (product-claims t) (product-at t) product.Post
+    → product-lts.Start (product-claims t) (product-at t) product.Post
 start-place t c = c .before .before .before .before .before .before .before .before .before .before .before .before
 
 -- The domain is typed.
@@ -54,7 +56,8 @@ typed-domain : (t : ℕ) (c : product-lts.After-known-told (product-claims t) (p
     → Part (star-typed (start .args .limit) Γ (length (start .args .term .now) - length (behind 1 (start .args .sub .now))) a) a
     (start .args .context .now) (start .args .depth) (start .args .work .now) (start .args .top) (domain .0) (domain .1 .0)
     (star-part .last .1 .1 .1 .1 .0) (star-part .last .1 .1 .0)
-typed-domain t c Γ a b S = typed (c .before .before .before .before .before .star-part .ensures Γ a (first S of-pi)) (c .before .domain .given .1)
+typed-domain t c Γ a b S =
+    typed (c .before .before .before .before .before .star-part .ensures Γ a (first S of-pi)) (c .before .domain .given .1)
 
 -- The words reach beyond it.
 reach : (t : ℕ) (c : product-lts.After-known-told (product-claims t) (product-at t) product.Post)

@@ -32,14 +32,21 @@ pub record Reach (from sub next room : ℕ) : Type 0 where
   pub small : room * 2 < 2 ^ 63
 
 -- The application, as the subject where the code starts.
-abbrev pub Node : (t : ℕ) → application-lts.Start (application-claims t) (application-at t) application.Post → Context → Term → Term → Type 0
-Node t start Γ f u = Subject Γ (app f u) (start .args .term .now) (start .args .sub .now) (start .args .context .now) (start .args .depth)
+abbrev pub Node : (t : ℕ)
+    → application-lts.Start (application-claims t) (application-at t) application.Post
+    → Context → Term → Term → Type 0
+Node t start Γ f u =
+    Subject Γ (app f u) (start .args .term .now) (start .args .sub .now) (start .args .context .now) (start .args .depth)
 
 -- The start, from where the function is typed; and that place, from where both parts are.
-abbrev pub start-place : (t : ℕ) → application-lts.After-function (application-claims t) (application-at t) application.Post → application-lts.Start (application-claims t) (application-at t) application.Post
+abbrev pub start-place : (t : ℕ)
+    → application-lts.After-function (application-claims t) (application-at t) application.Post
+    → application-lts.Start (application-claims t) (application-at t) application.Post
 start-place t c = c .before .before .before .before .before .before .before .before .before .before .before
 
-abbrev pub function-place : (t : ℕ) → application-lts.After-known-told2 (application-claims t) (application-at t) application.Post → application-lts.After-function (application-claims t) (application-at t) application.Post
+abbrev pub function-place : (t : ℕ)
+    → application-lts.After-known-told2 (application-claims t) (application-at t) application.Post
+    → application-lts.After-function (application-claims t) (application-at t) application.Post
 function-place t c = c .before .before .before .before .before .before .before .before .before .before .before .before .before .before
 
 -- The function is typed.
@@ -50,8 +57,10 @@ pub typed-function : (t : ℕ) (c : application-lts.After-function (application-
     → Part (infer (start .args .limit) Γ (length (start .args .term .now) - length (behind 1 (start .args .sub .now))) f) f
     (start .args .context .now) (start .args .depth) (start .args .work .now) (start .args .top) (c .function .given .0 .0)
     (c .function .given .0 .1 .0) (function-infer .last .1 .1 .1 .1 .0) (function-infer .last .1 .1 .0)
-typed-function t c Γ f u S = typed (c .before .before .before .before .infer .ensures Γ f (first S of-app)) (c .function .given .1)
+typed-function t c Γ f u S =
+    typed (c .before .before .before .before .infer .ensures Γ f (first S of-app)) (c .function .given .1)
 
+-- The words and the room reach beyond it.
 pub reach : (t : ℕ) (c : application-lts.After-enum-told2 (application-claims t) (application-at t) application.Post)
     → let start = start-place t (c .before .before .before .before .before) in
     let function = c .before .before .before .before .before .function .given .0 in
@@ -68,6 +77,7 @@ reach t c =
       small = start .good .1 .1 .1 .1 .0 .1;
     }
 
+-- Function and argument are typed.
 pub calls : (t : ℕ) (c : application-lts.After-known-told2 (application-claims t) (application-at t) application.Post) (Γ : Context) (f u : Term)
     → let function = function-place t c .function .given .0 in
     let start = start-place t (function-place t c) in
@@ -86,7 +96,9 @@ calls t c Γ f u S =
 -- The slice is as long as it was.
 pub long : (t : ℕ) (c : application-lts.After-known-told2 (application-claims t) (application-at t) application.Post)
     → length (c .before .before .before .before .before .infer2 .last .1 .1 .1 .1 .0) ≡ length (start-place t (function-place t c) .args .work .now)
-long t c = c .before .before .before .before .before .infer2 .kept .1 .1 .1 .1 .0 ∙ function-place t c .before .before .before .before .infer .kept .1 .1 .1 .1 .0
+long t c =
+    c .before .before .before .before .before .infer2 .kept .1 .1 .1 .1 .0
+    ∙ function-place t c .before .before .before .before .infer .kept .1 .1 .1 .1 .0
 
 -- The words up to the end of the argument, the room up to its type, and a first word of the function's type.
 pub reach-both : (t : ℕ) (c : application-lts.After-known-told2 (application-claims t) (application-at t) application.Post)
@@ -108,6 +120,7 @@ reach-both t c =
       omega (arith, C .long),
     )
 
+-- The walk measures the domain.
 pub domain-long : (t : ℕ) (c : application-lts.After-span (application-claims t) (application-at t) application.Post) (Γ : Context) (f u : Term)
     → let after-argument = c .before .before .before in
     let start = start-place t (function-place t after-argument) in
@@ -115,6 +128,7 @@ pub domain-long : (t : ℕ) (c : application-lts.After-span (application-claims 
     → c .span .result ≡ size (calls t after-argument Γ f u S .domain)
 domain-long t c Γ f u S = c .span .ensures .0 ∙ domain-span (calls t (c .before .before .before) Γ f u S)
 
+-- If the argument's type is the domain, the type is the codomain with the argument put in, measured.
 pub measured : (t : ℕ) (c : application-lts.Else2 (application-claims t) (application-at t) application.Post) (Γ : Context) (f u : Term)
     → let after-argument = c .before .before .before .before .before .before .before in
     let start = start-place t (function-place t after-argument) in
@@ -127,6 +141,7 @@ measured t c Γ f u S =
     right _ Γ _ f u (C .function) (C .argument)
     (compared-argument C (domain-long t after-span Γ f u S) (c .before .before .before .if1 .left) (c .before .same .ensures) .1 (c .if2 .left))
 
+-- That is what is written.
 pub puts : (t : ℕ) (c : application-lts.After-put-in (application-claims t) (application-at t) application.Post) (Γ : Context) (f u : Term)
     → let after-argument = c .before .before .before .before .before .before .before .before .before .before in
     let start = start-place t (function-place t after-argument) in
@@ -146,4 +161,5 @@ puts t c Γ f u S =
 -- It is still as long once the codomain is written.
 pub long-put : (t : ℕ) (c : application-lts.After-put-in (application-claims t) (application-at t) application.Post)
     → length (c .put-in .last .1 .1 .0) ≡ length (start-place t (function-place t (c .before .before .before .before .before .before .before .before .before .before)) .args .work .now)
-long-put t c = c .put-in .kept .1 .1 .0 ∙ long t (c .before .before .before .before .before .before .before .before .before .before)
+long-put t c =
+    c .put-in .kept .1 .1 .0 ∙ long t (c .before .before .before .before .before .before .before .before .before .before)

@@ -27,13 +27,18 @@ use Rattle.typing.proofs.inference.+abstraction+application+cast_down+c
 
 -- The up cast, as the subject where the code starts.
 abbrev pub Node : (t : ℕ) → cast-up-lts.Start (cast-up-claims t) (cast-up-at t) cast-up.Post → Context → Term → Term → Type 0
-Node t start Γ a e = Subject Γ (castup a e) (start .args .term .now) (start .args .sub .now) (start .args .context .now) (start .args .depth)
+Node t start Γ a e =
+    Subject Γ (castup a e) (start .args .term .now) (start .args .sub .now) (start .args .context .now) (start .args .depth)
 
 -- The start, from where the annotation is typed; and that place, from where both parts are.
-abbrev pub start-place : (t : ℕ) → cast-up-lts.After-known-told (cast-up-claims t) (cast-up-at t) cast-up.Post → cast-up-lts.Start (cast-up-claims t) (cast-up-at t) cast-up.Post
+abbrev pub start-place : (t : ℕ)
+    → cast-up-lts.After-known-told (cast-up-claims t) (cast-up-at t) cast-up.Post
+    → cast-up-lts.Start (cast-up-claims t) (cast-up-at t) cast-up.Post
 start-place t c = c .before .before .before .before .before .before .before .before .before .before .before .before
 
-abbrev pub annotation-place : (t : ℕ) → cast-up-lts.After-known-told2 (cast-up-claims t) (cast-up-at t) cast-up.Post → cast-up-lts.After-known-told (cast-up-claims t) (cast-up-at t) cast-up.Post
+abbrev pub annotation-place : (t : ℕ)
+    → cast-up-lts.After-known-told2 (cast-up-claims t) (cast-up-at t) cast-up.Post
+    → cast-up-lts.After-known-told (cast-up-claims t) (cast-up-at t) cast-up.Post
 annotation-place t c = c .before .before .before .before .before .before .before .before .before
 
 -- The annotation is typed.
@@ -45,8 +50,10 @@ pub typed-annotation : (t : ℕ) (c : cast-up-lts.After-known-told (cast-up-clai
     → Part (star-typed (start .args .limit) Γ (length (start .args .term .now) - length (behind 1 (start .args .sub .now))) a) a
     (start .args .context .now) (start .args .depth) (start .args .work .now) (start .args .top) (annotation .0) (annotation .1 .0)
     (star-part .last .1 .1 .1 .1 .0) (star-part .last .1 .1 .0)
-typed-annotation t c Γ a e S = typed (c .before .before .before .before .before .star-part .ensures Γ a (first S of-castup)) (c .before .annotation .given .1)
+typed-annotation t c Γ a e S =
+    typed (c .before .before .before .before .before .star-part .ensures Γ a (first S of-castup)) (c .before .annotation .given .1)
 
+-- The words reach beyond it.
 pub reach : (t : ℕ) (c : cast-up-lts.After-known-told (cast-up-claims t) (cast-up-at t) cast-up.Post)
     → let start = start-place t c in
     (1 + c .before .annotation .given .0 .0 < length (start .args .sub .now)) × (length (start .args .sub .now) ≤ longest)
@@ -55,12 +62,14 @@ reach t c =
     let P = start .pre .1 in
     reaches (P .3) _ (typed-annotation t c (P .0) (P .1) (P .2) (P .3)) (of-castup {e = P .2})
 
+-- The words that are copied are its own.
 pub copied : (t : ℕ) (c : cast-up-lts.After-known-told (cast-up-claims t) (cast-up-at t) cast-up.Post) (Γ : Context) (a e : Term)
     → let start = start-place t c in
     Node t start Γ a e
     → take (1 + c .before .annotation .given .0 .0 - 1) (drop 1 (start .args .sub .now)) ≡ words a
 copied t c Γ a e S = annotation-words S _ (typed-annotation t c Γ a e S) (of-castup {e = e})
 
+-- Both parts are typed.
 pub both : (t : ℕ) (c : cast-up-lts.After-known-told2 (cast-up-claims t) (cast-up-at t) cast-up.Post) (Γ : Context) (a e : Term)
     → let after-infer = c .before .before .before .before .before in
     let after-known-told = annotation-place t c in
@@ -78,8 +87,11 @@ both t c Γ a e S =
 -- The slice is as long as it was.
 pub long : (t : ℕ) (c : cast-up-lts.After-known-told2 (cast-up-claims t) (cast-up-at t) cast-up.Post)
     → length (c .before .before .before .before .before .infer .last .1 .1 .1 .1 .0) ≡ length (start-place t (annotation-place t c) .args .work .now)
-long t c = c .before .before .before .before .before .infer .kept .1 .1 .1 .1 .0 ∙ annotation-place t c .before .before .before .before .before .star-part .kept .1 .1 .1 .1 .0
+long t c =
+    c .before .before .before .before .before .infer .kept .1 .1 .1 .1 .0
+    ∙ annotation-place t c .before .before .before .before .before .star-part .kept .1 .1 .1 .1 .0
 
+-- There is room behind the body's type.
 pub room : (t : ℕ) (c : cast-up-lts.After-known-told2 (cast-up-claims t) (cast-up-at t) cast-up.Post)
     → let after-infer = c .before .before .before .before .before in
     let start = start-place t (annotation-place t c) in
@@ -101,6 +113,7 @@ pub moves : (t : ℕ) (c : cast-up-lts.After-step-into (cast-up-claims t) (cast-
     (start .args .limit) (c .step-into .result) (c .step-into .last .1 .1 .0)
 moves t c Γ a e S = c .step-into .ensures a (copied t (annotation-place t (c .before .before .before)) Γ a e S)
 
+-- It is the annotation's next state.
 pub next-state : (t : ℕ) (c : cast-up-lts.After-known-told3 (cast-up-claims t) (cast-up-at t) cast-up.Post) (Γ : Context) (a e : Term)
     → let after-step-into = c .before .before .before .before .before in
     let after-known-told2 = after-step-into .before .before .before in
@@ -110,6 +123,7 @@ pub next-state : (t : ℕ) (c : cast-up-lts.After-known-told3 (cast-up-claims t)
     (start .args .limit) (c .before .count .given .0 .0) (after-step-into .step-into .last .1 .1 .0)
 next-state t c Γ a e S = moved _ _ _ _ _ (step a) (moves t (c .before .before .before .before .before) Γ a e S) (c .before .count .given .1)
 
+-- Whether that is the body's type.
 pub compared : (t : ℕ) (c : cast-up-lts.After-same (cast-up-claims t) (cast-up-at t) cast-up.Post) (Γ : Context) (a e : Term)
     → let after-known-told2 = c .before .before .before .before .before .before .before .before .before .before .before in
     let start = start-place t (annotation-place t after-known-told2) in
