@@ -24,7 +24,7 @@ use Rattle.typing.proofs.inference.application.Reads as application
 use Rattle.typing.proofs.inference.+abstraction+application+cast_down+cast_up+infer+product+recursion+star_part.Lts-application as application-lts
 use Rattle.typing.proofs.inference.+abstraction+application+cast_down+cast_up+infer+product+recursion+star_part.Proof.Measures.{application-at, application-claims}
 
--- The words up to the argument, and the room up to where its type will lie.
+-- So many words of those there are, and the room up to where the argument's type will lie.
 pub record Reach (from sub next room : ℕ) : Type 0 where
   pub within : from ≤ sub
   pub short : sub ≤ longest
