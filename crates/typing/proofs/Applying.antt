@@ -2,7 +2,7 @@
 -- passed.
 use Prim.Native.Nat.{ℕ, suc, _+_}
 use mathlib.Core.Logic.{_≢_}
-use mathlib.Core.Path.{_≡_, refl, ap, _∙_}
+use mathlib.Core.Path.{_≡_, refl}
 use Rattle.calculus.specs.Term.{Term, app, pi, size, substitute}
 use Rattle.calculus.specs.Answer.{Answer, ok, refused, _>>=_, _>>_, require, not-product, wrong-argument}
 use Rattle.calculus.specs.Rules.{Context}
@@ -21,32 +21,20 @@ module _ (L : ℕ) (Γ : Context) (p : ℕ) (f u : Term) where
   unfolding infer
   by-function x = rw x refl
 
-  typed-function : {τ : Term} → infer L Γ (suc p) f ≡ ok τ → infer L Γ p (app f u) ≡ after-function τ
-  unfolding _>>=_
-  typed-function x = by-function refl ∙ ap (λ d. d >>= after-function) x
-
   pub no-function : {τ : Term} → infer L Γ (suc p) f ≡ ok τ → ((a b : Term) → τ ≢ pi a b) → infer L Γ p (app f u) ≡ refused not-product p
-  unfolding _>>=_
-  no-function x n =
-      typed-function x ∙ ap (λ d. d >>= λ x. infer L Γ (suc p + size f) u >>= after-argument (x .0) (x .1)) (no-product p n)
+  unfolding infer _>>=_
+  no-function x n = rw (x, no-product p n) refl
 
   module _ {a b : Term} (x : infer L Γ (suc p) f ≡ ok (pi a b)) where
     pub by-argument : {q : ℕ} → q ≡ suc p + size f → infer L Γ p (app f u) ≡ (infer L Γ q u >>= after-argument a b)
-    unfolding product _>>=_
-    by-argument y = rw y (typed-function x)
+    unfolding infer product _>>=_
+    by-argument y = rw (x, y) refl
 
     module _ {σ : Term} (y : infer L Γ (suc p + size f) u ≡ ok σ) where
-      typed-argument : infer L Γ p (app f u) ≡ after-argument a b σ
-      unfolding _>>=_
-      typed-argument = by-argument refl ∙ ap (λ d. d >>= after-argument a b) y
-
       pub wrong : σ ≢ a → infer L Γ p (app f u) ≡ refused wrong-argument p
-      unfolding _>>=_ _>>_ require
-      wrong n = typed-argument ∙ ap (λ t. require wrong-argument p t >> measure L p (substitute 0 u b)) (unequal n)
+      unfolding infer product _>>=_ _>>_ require
+      wrong n = rw (x, y, unequal n) refl
 
       pub right : σ ≡ a → infer L Γ p (app f u) ≡ measure L p (substitute 0 u b)
-      unfolding _>>=_ _>>_ require
-      right z =
-          typed-argument
-          ∙ ap (λ t. require wrong-argument p (same t a) >> measure L p (substitute 0 u b)) z
-          ∙ ap (λ t. require wrong-argument p t >> measure L p (substitute 0 u b)) (equal a)
+      unfolding infer product _>>=_ _>>_ require
+      right z = rw (x, y, z, equal a) refl

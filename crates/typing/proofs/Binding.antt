@@ -54,10 +54,14 @@ module _ {L : ℕ} {Γ : Context} {p : ℕ} {a e : Term} {places : List ℕ} {de
   pub lam-typed : size (pi a (B .type)) ≤ L → infer L Γ p (lam a e) ≡ ok (pi a (B .type))
   lam-typed h = rw lam-measured (fitting p (pi a (B .type)) h)
 
-  pub mu-other : B .type ≢ raise 1 0 a → infer L Γ p (mu a e) ≡ refused wrong-recursion p
+  mu-tested : infer L Γ p (mu a e) ≡ mu-tests L p a (B .type)
   unfolding infer _>>=_ _>>_ require
-  mu-other d = rw (B .annotation, equal star, B .body, unequal d) refl
+  mu-tested = rw (B .annotation, equal star, B .body) refl
+
+  pub mu-other : B .type ≢ raise 1 0 a → infer L Γ p (mu a e) ≡ refused wrong-recursion p
+  unfolding _>>=_ _>>_ require
+  mu-other d = rw (mu-tested, unequal d) refl
 
   pub mu-typed : B .type ≡ raise 1 0 a → size a ≤ L → infer L Γ p (mu a e) ≡ ok a
-  unfolding infer _>>=_ _>>_ require
-  mu-typed x h = rw (B .annotation, equal star, B .body, x, equal (raise 1 0 a)) (fitting p a h)
+  unfolding _>>=_ _>>_ require
+  mu-typed x h = rw (mu-tested, x, equal (raise 1 0 a)) (fitting p a h)

@@ -58,18 +58,22 @@ up-body L Γ p q a e f at = rw (f, equal star, at) refl
 -- Both parts of an up cast are typed.
 module _ {L : ℕ} {Γ : Context} {p : ℕ} {a e : Term} {places : List ℕ} {depth : ℕ} {work : List ℕ} {top n more m : ℕ} {after places′ : List ℕ}
     (B : Both L Γ Γ p a e places depth work top top n more m after places′) where
-  pub up-rests : stepped p (step a) ≡ refused no-step p → infer L Γ p (castup a e) ≡ refused no-step p
+  up-tested : infer L Γ p (castup a e) ≡ up-tests L p a (B .type)
   unfolding infer _>>=_ _>>_ require
-  up-rests s = rw (B .annotation, equal star, B .body, s) refl
+  up-tested = rw (B .annotation, equal star, B .body) refl
+
+  pub up-rests : stepped p (step a) ≡ refused no-step p → infer L Γ p (castup a e) ≡ refused no-step p
+  unfolding _>>=_
+  up-rests s = rw (up-tested, s) refl
 
   pub up-step-over : (x : Term) → step a ≡ next x → L < size x → infer L Γ p (castup a e) ≡ refused over-limit p
-  unfolding infer _>>=_ _>>_ require stepped
-  up-step-over x s h = rw (B .annotation, equal star, B .body, s, over p x h) refl
+  unfolding _>>=_ stepped
+  up-step-over x s h = rw (up-tested, s, over p x h) refl
 
   pub up-other : (x : Term) → step a ≡ next x → size x ≤ L → x ≢ B .type → infer L Γ p (castup a e) ≡ refused wrong-cast p
-  unfolding infer _>>=_ _>>_ require stepped
-  up-other x s h n = rw (B .annotation, equal star, B .body, s, fitting p x h, unequal n) refl
+  unfolding _>>=_ _>>_ require stepped
+  up-other x s h n = rw (up-tested, s, fitting p x h, unequal n) refl
 
   pub up-measured : (x : Term) → step a ≡ next x → size x ≤ L → x ≡ B .type → infer L Γ p (castup a e) ≡ measure L p a
-  unfolding infer _>>=_ _>>_ require stepped
-  up-measured x s h q = rw (B .annotation, equal star, B .body, s, fitting p x h, ← q, equal x) refl
+  unfolding _>>=_ _>>_ require stepped
+  up-measured x s h q = rw (up-tested, s, fitting p x h, ← q, equal x) refl

@@ -75,7 +75,7 @@ lying-word τ m top after x l =
     ∙ ap (λ ws. getD ws 0 0) x
 
 -- The type that was found of a subterm: its first word says which node it is.
-pub type-headed : {Γ : Context} {e : Term} {term sub places : List ℕ} {depth : ℕ} (L p : ℕ) {places₀ : List ℕ} {depth₀ : ℕ} {work : List ℕ} {top n m : ℕ} {after places′ : List ℕ} {k : calculus.Meaning}
+pub type-headed : {Γ : Context} {e : Term} {term sub places : List ℕ} {depth : ℕ} (L p : ℕ) {places₀ work : List ℕ} {depth₀ top n m : ℕ} {after places′ : List ℕ} {k : calculus.Meaning}
     → Subject Γ e term sub places depth
     → (part : Part (infer L Γ p e) e places₀ depth₀ work top n m after places′)
     → k ≡ meaning (getD after top 0)

@@ -1,5 +1,7 @@
 -- The cycle of calls that infers a type meets its contracts: every call in it lowers the caller's measure, so that a member may
--- take its callees' contracts for granted. Each member's needs are answered in a module of its own.
+-- take its callees' contracts for granted. Each member's needs are answered in a module of its own. The places of a member's code
+-- are types of its own, so that what is known there is stated for each member, even where it is alike; why it holds is proved
+-- once, in the lemmas of the crate.
 mod Measures
 mod Abstraction
 mod Application

@@ -32,12 +32,6 @@ returns t c Γ a e S =
     let after-star-part = c .before .before .before .before in
     passed _ (after-star-part .star-part .ensures Γ a (first S of-lam)) (c .enum-told .given .1) (lam-annotation _ Γ _ _ a e (place-first S))
 
-narrow-requires : (t : ℕ) → abstraction-lts.Need-narrow-requires (abstraction-claims t) (abstraction-at t) abstraction.Post
-narrow-requires t c κs = place-short (start-place t c .pre .1 .3)
-
-element-write-context : (t : ℕ) → abstraction-lts.Need-element-write-context (abstraction-claims t) (abstraction-at t) abstraction.Post
-element-write-context t c = subject-shallow (start-place t (c .before) .pre .1 .3)
-
 add-infer-2 : (t : ℕ) → abstraction-lts.Need-add-infer-2 (abstraction-claims t) (abstraction-at t) abstraction.Post
 add-infer-2 t c =
     let joined1 = c .before .before .before .before in
@@ -71,9 +65,6 @@ returns-3 t c Γ a e S =
     let B = both t (c .before .before) Γ a e S in
     turned (lam-over B (omega (arith, B .read, B .long, c .before .if2 .taken))) (c .refused .ensures)
 
-part-copy-end : (t : ℕ) → abstraction-lts.Need-part-copy-end (abstraction-claims t) (abstraction-at t) abstraction.Post
-part-copy-end t c = omega (arith, reach t (annotation-place t (c .before)))
-
 same-length-4 : (t : ℕ) → abstraction-lts.Need-same-length-4 (abstraction-claims t) (abstraction-at t) abstraction.Post
 same-length-4 t c =
     let after-known-told2 = c .before .before .before .before .before .before in
@@ -106,16 +97,16 @@ returns-4 t c Γ a e S =
 pub abstraction-part : (M : Type 1) (t : ℕ) → abstraction-lts.Closed (abstraction-claims t) (abstraction-at t) abstraction.Post M
 abstraction-part M t =
     abstraction-lts.spec (abstraction-claims t) (abstraction-at t) abstraction.Post
-    (λ c. search needs) (λ c. omega (arith, subject-some (c .before .before .before .pre .1 .3)))
-    (λ c. omega (arith, subject-some (c .before .before .before .pre .1 .3))) (λ c. search needs) (star-part-requires t)
-    (λ c. search needs) (λ c. search needs) (λ c. search needs) (returns t) (λ c. search needs) (narrow-requires t)
-    (λ c. search needs) (element-write-context t) (λ c. omega (arith, reach t (c .before)))
+    (λ c. search needs) (λ c. subject-some (c .before .before .before .pre .1 .3))
+    (λ c. subject-some (c .before .before .before .pre .1 .3)) (λ c. search needs) (star-part-requires t) (λ c. search needs)
+    (λ c. search needs) (λ c. search needs) (returns t) (λ c. search needs) (λ c κs. place-short (start-place t c .pre .1 .3))
+    (λ c. search needs) (λ c. subject-shallow (start-place t (c .before) .pre .1 .3)) (λ c. omega (arith, reach t (c .before)))
     (λ c. omega (arith, reach t (c .before .before))) (λ c. omega (arith, reach t (c .before .before)))
     (λ c. omega (arith, reach t (c .before .before))) (λ c. search needs) (λ c. search needs) (add-infer-2 t) (infer-requires t)
     (λ c. search needs) (λ c. search needs) (λ c. search needs) (returns-2 t) (λ c. omega (arith, lengths t c))
     (λ c κs. search needs) (λ c. search needs) (returns-3 t) (λ c. omega (arith, room t (c .before)))
-    (λ c. omega (arith, room t (c .before))) (λ c. search needs) (λ c. search needs) (part-copy-end t)
-    (λ c. omega (arith, room t (c .before .before .before)))
+    (λ c. omega (arith, room t (c .before))) (λ c. search needs) (λ c. search needs)
+    (λ c. omega (arith, reach t (annotation-place t (c .before)))) (λ c. omega (arith, room t (c .before .before .before)))
     (λ c κs. simp length-set (omega (arith, room t (c .before .before .before))))
     (λ c. omega (arith, lengths t (c .before .before .before .before .before .before)))
     (λ c. omega (arith, lengths t (c .before .before .before .before .before .before))) (same-length-4 t) (returns-4 t)

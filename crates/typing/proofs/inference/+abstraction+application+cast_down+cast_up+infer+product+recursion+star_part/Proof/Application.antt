@@ -23,7 +23,7 @@ use Rattle.typing.proofs.Written.{written-type}
 use Rattle.typing.proofs.inference.application.Reads as application
 use Rattle.typing.proofs.inference.+abstraction+application+cast_down+cast_up+infer+product+recursion+star_part.Lts-application as application-lts
 use Rattle.typing.proofs.inference.+abstraction+application+cast_down+cast_up+infer+product+recursion+star_part.Proof.Measures.{application-at, application-claims, part-asked}
-use Rattle.typing.proofs.inference.+abstraction+application+cast_down+cast_up+infer+product+recursion+star_part.Proof.Application.Known.{typed-function, reach, function-place, start-place, calls, long, reach-both, domain-long, measured, puts, long-put}
+use Rattle.typing.proofs.inference.+abstraction+application+cast_down+cast_up+infer+product+recursion+star_part.Proof.Application.Known.{start-place, function-place, typed-function, reach, calls, long, reach-both, domain-long, measured, puts, long-put}
 
 infer-requires : (t : ℕ) → application-lts.Need-infer-requires (application-claims t) (application-at t) application.Post
 infer-requires t c κs =
@@ -47,13 +47,12 @@ returns-2 t c Γ f u S =
 infer-requires-2 : (t : ℕ) → application-lts.Need-infer-requires-2 (application-claims t) (application-at t) application.Post
 infer-requires-2 t c κs =
     let after-function = c .before .before .before .before .before .before .before .before in
-    let after-infer = after-function .before .before .before .before in
-    let start = after-infer .before .before .before .before .before .before .before in
+    let start = start-place t after-function in
     let P = start .pre .1 in
     let function = typed-function t after-function (P .0) (P .1) (P .2) (P .3) in
     let fits = type-fits (first (P .3) of-app) _ _ (function .found) in
     part-asked (after-function .function .given .0 .0) 1 (omega arith) (start .pre .0) (P .3) (P .4) (argument-subject (P .3) _ function)
-    (two-levels of-app .1) (after-infer .infer .kept .1 .1 .1 .1 .0) (omega (arith, function .long, fits))
+    (two-levels of-app .1) (after-function .before .before .before .before .infer .kept .1 .1 .1 .1 .0) (omega (arith, function .long, fits))
 
 returns-3 : (t : ℕ) → application-lts.Need-returns-3 (application-claims t) (application-at t) application.Post
 returns-3 t c Γ f u S =
@@ -77,7 +76,7 @@ same-requires : (t : ℕ) → application-lts.Need-same-requires (application-cl
 same-requires t c κs =
     let after-span = c .before .before in
     let after-argument = after-span .before .before .before in
-    let P = start-place t after-argument .pre .1 in
+    let P = start-place t (function-place t after-argument) .pre .1 in
     let C = calls t after-argument _ _ _ (P .3) in
     let room = room-two (P .4) in
     let l = long t after-argument in (
@@ -89,14 +88,15 @@ returns-5 : (t : ℕ) → application-lts.Need-returns-5 (application-claims t) 
 returns-5 t c Γ f u S =
     let after-span = c .before .before .before .before .before in
     let C = calls t (after-span .before .before .before) Γ f u S in
-    let compared = compared-argument C (domain-long t after-span Γ f u S) (c .before .before .before .before .if1 .left) (c .before .before .same .ensures) in
+    let as-long = c .before .before .before .before .if1 .left in
+    let compared = compared-argument C (domain-long t after-span Γ f u S) as-long (c .before .before .same .ensures) in
     turned (wrong _ Γ _ f u (C .function) (C .argument) (compared .0 (c .before .if2 .taken))) (c .refused3 .ensures)
 
 put-in-requires : (t : ℕ) → application-lts.Need-put-in-requires (application-claims t) (application-at t) application.Post
 put-in-requires t c κs =
     let after-span = c .before .before .before .before .before .before in
     let after-argument = after-span .before .before .before in
-    let start = start-place t after-argument in
+    let start = start-place t (function-place t after-argument) in
     let P = start .pre .1 in
     let function = typed-function t (function-place t after-argument) (P .0) (P .1) (P .2) (P .3) in
     let C = calls t after-argument (P .0) (P .1) (P .2) (P .3) in
@@ -112,7 +112,7 @@ put-in-requires t c κs =
 sub-t59 : (t : ℕ) → application-lts.Need-sub-t59 (application-claims t) (application-at t) application.Post
 sub-t59 t c =
     let after-put-in = c .before .before .before .before .before in
-    let P = start-place t (after-put-in .before .before .before .before .before .before .before .before .before .before) .pre .1 in
+    let P = start-place t (function-place t (after-put-in .before .before .before .before .before .before .before .before .before .before)) .pre .1 in
     omega (arith, put (puts t after-put-in (P .0) (P .1) (P .2) (P .3)) (c .before .end .given .1) .ends)
 
 returns-6 : (t : ℕ) → application-lts.Need-returns-6 (application-claims t) (application-at t) application.Post
@@ -129,7 +129,7 @@ returns-7 t c Γ f u S =
     found
     (measured t (c .before .before .before .before .before .before .before .before) Γ f u S ∙ fitting _ _ (P .fits))
     (written-type _ _ (unfold size in omega (arith, C .read, C .further)) (omega (arith, P .ends)) (P .stored)
-    (omega (arith, P .fits, room-two (start-place t after-argument .pre .1 .4), long t after-argument))
+    (omega (arith, P .fits, room-two (start-place t (function-place t after-argument) .pre .1 .4), long t after-argument))
     (C .front) (C .context) (C .wide))
 
 pub application-part : (M : Type 1) (t : ℕ) → application-lts.Closed (application-claims t) (application-at t) application.Post M

@@ -101,8 +101,8 @@ returns-4 t c Γ e S =
 pub cast-down-part : (M : Type 1) (t : ℕ) → cast-down-lts.Closed (cast-down-claims t) (cast-down-at t) cast-down.Post M
 cast-down-part M t =
     cast-down-lts.spec (cast-down-claims t) (cast-down-at t) cast-down.Post
-    (λ c. search needs) (λ c. omega (arith, subject-some (c .before .before .before .pre .1 .2)))
-    (λ c. omega (arith, subject-some (c .before .before .before .pre .1 .2))) (λ c. search needs) (infer-requires t)
-    (λ c. search needs) (λ c. search needs) (λ c. search needs) (returns t) (step-type-requires t) (λ c κs. search needs)
-    (λ c. search needs) (λ c κs. search needs) (λ c. search needs) (add-t28 t) (λ c. search needs) (returns-2 t)
-    (λ c. search needs) (returns-3 t) (λ c. search needs) (returns-4 t)
+    (λ c. search needs) (λ c. subject-some (c .before .before .before .pre .1 .2))
+    (λ c. subject-some (c .before .before .before .pre .1 .2)) (λ c. search needs) (infer-requires t) (λ c. search needs)
+    (λ c. search needs) (λ c. search needs) (returns t) (step-type-requires t) (λ c κs. search needs) (λ c. search needs)
+    (λ c κs. search needs) (λ c. search needs) (add-t28 t) (λ c. search needs) (returns-2 t) (λ c. search needs) (returns-3 t)
+    (λ c. search needs) (returns-4 t)

@@ -22,7 +22,7 @@ use Rattle.typing.proofs.Compared.{longer}
 use Rattle.typing.proofs.inference.cast_up.Reads as cast-up
 use Rattle.typing.proofs.inference.+abstraction+application+cast_down+cast_up+infer+product+recursion+star_part.Lts-cast_up as cast-up-lts
 use Rattle.typing.proofs.inference.+abstraction+application+cast_down+cast_up+infer+product+recursion+star_part.Proof.Measures.{cast-up-at, cast-up-claims, part-asked}
-use Rattle.typing.proofs.inference.+abstraction+application+cast_down+cast_up+infer+product+recursion+star_part.Proof.CastUp.Known.{start-place, annotation-place, typed-annotation, reach, copied, both, long, room, next-state, compared}
+use Rattle.typing.proofs.inference.+abstraction+application+cast_down+cast_up+infer+product+recursion+star_part.Proof.CastUp.Known.{start-place, annotation-place, typed-annotation, reach, copied, both, long, room, moves, next-state, compared}
 
 star-part-requires : (t : ℕ) → cast-up-lts.Need-star-part-requires (cast-up-claims t) (cast-up-at t) cast-up.Post
 star-part-requires t c κs =
@@ -51,9 +51,6 @@ returns-2 t c Γ a e S =
     passed _ (after-infer .infer .ensures Γ e (beside S _ A of-castup)) (c .enum-told2 .given .1)
     (up-body _ Γ _ _ a e (annotation-found S _ A) (second-place S _ A (of-castup {e = e})))
 
-part-step-into-end : (t : ℕ) → cast-up-lts.Need-part-step-into-end (cast-up-claims t) (cast-up-at t) cast-up.Post
-part-step-into-end t c = omega (arith, reach t (annotation-place t c))
-
 step-into-requires : (t : ℕ) → cast-up-lts.Need-step-into-requires (cast-up-claims t) (cast-up-at t) cast-up.Post
 step-into-requires t c κs =
     let after-known-told = annotation-place t (c .before .before) in
@@ -66,19 +63,17 @@ step-into-requires t c κs =
 returns-3 : (t : ℕ) → cast-up-lts.Need-returns-3 (cast-up-claims t) (cast-up-at t) cast-up.Post
 returns-3 t c Γ a e S =
     let after-step-into = c .before .before .before .before in
-    let after-known-told2 = after-step-into .before .before .before in
-    let after-known-told = annotation-place t after-known-told2 in
-    let m = after-step-into .step-into .ensures a (copied t after-known-told Γ a e S) in
-    turned (up-rests (both t after-known-told2 Γ a e S) (rests _ _ _ _ _ _ (step a) m (c .before .match3 .keys1))) (c .refused .ensures)
+    turned
+    (up-rests
+    (both t (after-step-into .before .before .before) Γ a e S)
+    (rests _ _ _ _ _ _ (step a) (moves t after-step-into Γ a e S) (c .before .match3 .keys1)))
+    (c .refused .ensures)
 
 returns-4 : (t : ℕ) → cast-up-lts.Need-returns-4 (cast-up-claims t) (cast-up-at t) cast-up.Post
 returns-4 t c Γ a e S =
     let after-step-into = c .before .before .before .before .before in
-    let after-known-told2 = after-step-into .before .before .before in
-    let after-known-told = annotation-place t after-known-told2 in
-    let m = after-step-into .step-into .ensures a (copied t after-known-told Γ a e S) in
-    let o = over-limit _ _ _ _ _ (step a) m (c .before .enum-told3 .given .1) in
-    turned (up-step-over (both t after-known-told2 Γ a e S) (o .0) (o .1) (o .2)) (c .refused2 .ensures)
+    let o = over-limit _ _ _ _ _ (step a) (moves t after-step-into Γ a e S) (c .before .enum-told3 .given .1) in
+    turned (up-step-over (both t (after-step-into .before .before .before) Γ a e S) (o .0) (o .1) (o .2)) (c .refused2 .ensures)
 
 returns-5 : (t : ℕ) → cast-up-lts.Need-returns-5 (cast-up-claims t) (cast-up-at t) cast-up.Post
 returns-5 t c Γ a e S =
@@ -121,11 +116,8 @@ copy-requires t c κs =
 add-t19 : (t : ℕ) → cast-up-lts.Need-add-t19 (cast-up-claims t) (cast-up-at t) cast-up.Post
 add-t19 t c =
     let after-known-told2 = c .before .before .before .before .before .before .before .before .before .before .before .before .before .before .before .before .before .before in
-    let after-known-told = annotation-place t after-known-told2 in
-    let start = start-place t after-known-told in
-    let P = start .pre .1 in
-    let B = both t after-known-told2 (P .0) (P .1) (P .2) (P .3) in
-    omega (arith, both-reach (P .3) of-castup B)
+    let P = start-place t (annotation-place t after-known-told2) .pre .1 in
+    omega (arith, both-reach (P .3) of-castup (both t after-known-told2 (P .0) (P .1) (P .2) (P .3)))
 
 same-length-8 : (t : ℕ) → cast-up-lts.Need-same-length-8 (cast-up-claims t) (cast-up-at t) cast-up.Post
 same-length-8 t c =
@@ -157,13 +149,13 @@ returns-8 t c Γ a e S =
 pub cast-up-part : (M : Type 1) (t : ℕ) → cast-up-lts.Closed (cast-up-claims t) (cast-up-at t) cast-up.Post M
 cast-up-part M t =
     cast-up-lts.spec (cast-up-claims t) (cast-up-at t) cast-up.Post
-    (λ c. search needs) (λ c. omega (arith, subject-some (c .before .before .before .pre .1 .3)))
-    (λ c. omega (arith, subject-some (c .before .before .before .pre .1 .3))) (λ c. search needs) (star-part-requires t)
-    (λ c. search needs) (λ c. search needs) (λ c. search needs) (returns t) (λ c. omega (arith, reach t c))
-    (λ c. omega (arith, reach t c)) (λ c. omega (arith, reach t c)) (λ c. omega (arith, reach t c)) (λ c. search needs)
-    (infer-requires t) (λ c. search needs) (λ c. search needs) (λ c. search needs) (returns-2 t) (λ c. omega (arith, room t c))
-    (λ c. search needs) (λ c. search needs) (part-step-into-end t) (step-into-requires t) (λ c κs. search needs)
-    (λ c. search needs) (returns-3 t) (λ c. search needs) (λ c κs. search needs) (λ c. search needs) (returns-4 t)
-    (λ c. search needs) (λ c κs. search needs) (λ c. search needs) (returns-5 t) (same-requires t) (λ c κs. search needs)
-    (λ c. search needs) (returns-6 t) (λ c κs. search needs) (λ c. search needs) (returns-7 t) (λ c. search needs)
-    (λ c. search needs) (part-copy-end t) (copy-requires t) (add-t19 t) (same-length-8 t) (returns-8 t)
+    (λ c. search needs) (λ c. subject-some (c .before .before .before .pre .1 .3))
+    (λ c. subject-some (c .before .before .before .pre .1 .3)) (λ c. search needs) (star-part-requires t) (λ c. search needs)
+    (λ c. search needs) (λ c. search needs) (returns t) (λ c. omega (arith, reach t c)) (λ c. omega (arith, reach t c))
+    (λ c. omega (arith, reach t c)) (λ c. omega (arith, reach t c)) (λ c. search needs) (infer-requires t) (λ c. search needs)
+    (λ c. search needs) (λ c. search needs) (returns-2 t) (λ c. omega (arith, room t c)) (λ c. search needs) (λ c. search needs)
+    (λ c. omega (arith, reach t (annotation-place t c))) (step-into-requires t) (λ c κs. search needs) (λ c. search needs)
+    (returns-3 t) (λ c. search needs) (λ c κs. search needs) (λ c. search needs) (returns-4 t) (λ c. search needs)
+    (λ c κs. search needs) (λ c. search needs) (returns-5 t) (same-requires t) (λ c κs. search needs) (λ c. search needs)
+    (returns-6 t) (λ c κs. search needs) (λ c. search needs) (returns-7 t) (λ c. search needs) (λ c. search needs)
+    (part-copy-end t) (copy-requires t) (add-t19 t) (same-length-8 t) (returns-8 t)

@@ -74,6 +74,7 @@ variable-requires t c κs =
       R .allowed,
     )
 
+-- What the node's own functions are asked for. Each call is a place of its own type, so that each has its own answer.
 application-requires : (t : ℕ) → infer-lts.Need-application-requires (infer-claims t) (infer-at t) infer.Post
 unfolding Headed
 application-requires t c κs =
@@ -143,6 +144,7 @@ returns-2 t c Γ e S =
     (infers-annotation variable (omega (arith, room-two (start .pre .1 .3)))
     (c .before .before .variable .ensures _ (annotated variable (annotation-at t (c .before .before .before .before)))))
 
+-- What they answer.
 returns-3 : (t : ℕ) → infer-lts.Need-returns-3 (infer-claims t) (infer-at t) infer.Post
 unfolding Headed
 returns-3 t c Γ e S =

@@ -157,7 +157,7 @@ star-part-claims t = (infer-below t, infer.Post, classify-reads.Asked, classify-
 
 -- What a node asks for a part `d` of it that stands behind the first word and `n` others: fewer words, by the measure of `infer` or
 -- of `star_part`, the part as a subject, and its room.
-pub part-asked : {Γ Δ : Context} {e d : Term} {term sub places places′ : List ℕ} {depth depth′ : ℕ} {work work′ : List ℕ} {top top′ limit t : ℕ} (n more : ℕ)
+pub part-asked : {Γ Δ : Context} {e d : Term} {term sub places places′ work work′ : List ℕ} {depth depth′ top top′ limit t : ℕ} (n more : ℕ)
     → more ≤ 2
     → 3 * length sub ≡ t
     → Subject Γ e term sub places depth

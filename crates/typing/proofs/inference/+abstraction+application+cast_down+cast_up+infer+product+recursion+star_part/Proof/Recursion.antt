@@ -38,12 +38,6 @@ returns t c Γ a e S =
     let after-star-part = c .before .before .before .before in
     passed _ (after-star-part .star-part .ensures Γ a (first S of-mu)) (c .enum-told .given .1) (mu-annotation _ Γ _ _ a e (place-first S))
 
-narrow-requires : (t : ℕ) → recursion-lts.Need-narrow-requires (recursion-claims t) (recursion-at t) recursion.Post
-narrow-requires t c κs = place-short (start-place t c .pre .1 .3)
-
-element-write-context : (t : ℕ) → recursion-lts.Need-element-write-context (recursion-claims t) (recursion-at t) recursion.Post
-element-write-context t c = subject-shallow (start-place t (c .before) .pre .1 .3)
-
 infer-requires : (t : ℕ) → recursion-lts.Need-infer-requires (recursion-claims t) (recursion-at t) recursion.Post
 infer-requires t c κs =
     let after-narrow = c .before .before .before in
@@ -69,9 +63,6 @@ returns-3 t c Γ a e S =
     let B = both t (c .before .before) Γ a e S in
     turned (mu-other B (longer (B .type) (raise 1 0 a) (B .long) (B .read ∙ sym (raise-size 1 0 a)) (c .before .if1 .taken))) (c .refused .ensures)
 
-part-raise-end : (t : ℕ) → recursion-lts.Need-part-raise-end (recursion-claims t) (recursion-at t) recursion.Post
-part-raise-end t c = omega (arith, reach t (annotation-place t (c .before)))
-
 raise-requires : (t : ℕ) → recursion-lts.Need-raise-requires (recursion-claims t) (recursion-at t) recursion.Post
 raise-requires t c κs =
     let after-known-told = annotation-place t (c .before .before .before) in
@@ -93,9 +84,6 @@ returns-4 t c Γ a e S =
     let B = both t after-known-told2 Γ a e S in
     turned (mu-other B (λ x. compared t (c .before .before) Γ a e S .0 (c .before .if2 .taken) (sym x))) (c .refused2 .ensures)
 
-part-copy-end : (t : ℕ) → recursion-lts.Need-part-copy-end (recursion-claims t) (recursion-at t) recursion.Post
-part-copy-end t c = omega (arith, reach t (annotation-place t (c .before .before .before .before .before .before .before .before .before)))
-
 copy-requires : (t : ℕ) → recursion-lts.Need-copy-requires (recursion-claims t) (recursion-at t) recursion.Post
 copy-requires t c κs =
     let after-raise = c .before .before .before .before .before .before .before in
@@ -104,11 +92,8 @@ copy-requires t c κs =
 add-t31 : (t : ℕ) → recursion-lts.Need-add-t31 (recursion-claims t) (recursion-at t) recursion.Post
 add-t31 t c =
     let after-known-told2 = c .before .before .before .before .before .before .before .before .before .before .before .before .before .before in
-    let after-known-told = annotation-place t after-known-told2 in
-    let start = start-place t after-known-told in
-    let P = start .pre .1 in
-    let B = both t after-known-told2 (P .0) (P .1) (P .2) (P .3) in
-    omega (arith, both-reach (P .3) of-mu B)
+    let P = start-place t (annotation-place t after-known-told2) .pre .1 in
+    omega (arith, both-reach (P .3) of-mu (both t after-known-told2 (P .0) (P .1) (P .2) (P .3)))
 
 same-length-5 : (t : ℕ) → recursion-lts.Need-same-length-5 (recursion-claims t) (recursion-at t) recursion.Post
 same-length-5 t c =
@@ -129,7 +114,7 @@ returns-5 t c Γ a e S =
     let start = start-place t after-known-told in
     let B = both t after-known-told2 Γ a e S in
     let r = room t after-known-told2 in
-    let long = else1 .if1 .left in
+    let as-long = else1 .if1 .left in
     let k = after-raise .raise .kept .1 .1 .0 in
     found
     (mu-typed B (sym (compared t after-same Γ a e S .1 (else2 .if2 .left))) (omega (arith, B .read)))
@@ -145,13 +130,14 @@ returns-5 t c Γ a e S =
 pub recursion-part : (M : Type 1) (t : ℕ) → recursion-lts.Closed (recursion-claims t) (recursion-at t) recursion.Post M
 recursion-part M t =
     recursion-lts.spec (recursion-claims t) (recursion-at t) recursion.Post
-    (λ c. search needs) (λ c. omega (arith, subject-some (c .before .before .before .pre .1 .3)))
-    (λ c. omega (arith, subject-some (c .before .before .before .pre .1 .3))) (λ c. search needs) (star-part-requires t)
-    (λ c. search needs) (λ c. search needs) (λ c. search needs) (returns t) (λ c. search needs) (narrow-requires t)
-    (λ c. search needs) (element-write-context t) (λ c. omega (arith, reach t (c .before)))
+    (λ c. search needs) (λ c. subject-some (c .before .before .before .pre .1 .3))
+    (λ c. subject-some (c .before .before .before .pre .1 .3)) (λ c. search needs) (star-part-requires t) (λ c. search needs)
+    (λ c. search needs) (λ c. search needs) (returns t) (λ c. search needs) (λ c κs. place-short (start-place t c .pre .1 .3))
+    (λ c. search needs) (λ c. subject-shallow (start-place t (c .before) .pre .1 .3)) (λ c. omega (arith, reach t (c .before)))
     (λ c. omega (arith, reach t (c .before))) (λ c. omega (arith, reach t (c .before))) (λ c. omega (arith, reach t (c .before)))
     (λ c. search needs) (λ c. search needs) (infer-requires t) (λ c. search needs) (λ c. search needs) (λ c. search needs)
     (returns-2 t) (λ c κs. search needs) (λ c. search needs) (returns-3 t) (λ c. omega (arith, room t (c .before)))
-    (λ c. search needs) (λ c. search needs) (part-raise-end t) (raise-requires t) (same-requires t) (λ c κs. search needs)
-    (λ c. search needs) (returns-4 t) (λ c. search needs) (λ c. search needs) (part-copy-end t) (copy-requires t) (add-t31 t)
-    (same-length-5 t) (returns-5 t)
+    (λ c. search needs) (λ c. search needs) (λ c. omega (arith, reach t (annotation-place t (c .before)))) (raise-requires t)
+    (same-requires t) (λ c κs. search needs) (λ c. search needs) (returns-4 t) (λ c. search needs) (λ c. search needs)
+    (λ c. omega (arith, reach t (annotation-place t (c .before .before .before .before .before .before .before .before .before))))
+    (copy-requires t) (add-t31 t) (same-length-5 t) (returns-5 t)

@@ -67,15 +67,17 @@ returns t c Γ e S =
 returns-2 : (t : ℕ) → star-part-lts.Need-returns-2 (star-part-claims t) (star-part-at t) star-part.Post
 returns-2 t c Γ e S =
     let classify = c .before .before .classify in
-    let part = typed (c .before .before .before .before .before .before .before .before .infer .ensures Γ e S) (c .before .before .before .before .enum-told .given .1) in
+    let after-told = c .before .before .before .before in
+    let part = typed (after-told .before .before .before .before .infer .ensures Γ e S) (after-told .enum-told .given .1) in
     turned
     (unstarred _ Γ _ part λ x. not-star (classify .result) (c .before .match2 .keys2) (classify .ensures ∙ x))
     (c .refused .ensures)
 
 returns-3 : (t : ℕ) → star-part-lts.Need-returns-3 (star-part-claims t) (star-part-at t) star-part.Post
 returns-3 t c Γ e S =
-    let q = c .before .before .before .before .enum-told .given .1 in
-    let part = typed (c .before .before .before .before .before .before .before .before .infer .ensures Γ e S) q in
+    let after-told = c .before .before .before .before in
+    let q = after-told .enum-told .given .1 in
+    let part = typed (after-told .before .before .before .before .infer .ensures Γ e S) q in
     starred _ _ S part q (ap meaning-of (sym (c .enum-told3 .given .1)) ∙ c .before .before .classify .ensures)
 
 pub star-part-part : (M : Type 1) (t : ℕ) → star-part-lts.Closed (star-part-claims t) (star-part-at t) star-part.Post M

@@ -22,14 +22,21 @@ use Rattle.typing.proofs.inference.+abstraction+application+cast_down+c
 use Rattle.typing.proofs.inference.+abstraction+application+cast_down+cast_up+infer+product+recursion+star_part.Proof.Measures.{abstraction-at, abstraction-claims}
 
 -- The abstraction, as the subject where the code starts.
-abbrev pub Node : (t : ℕ) → abstraction-lts.Start (abstraction-claims t) (abstraction-at t) abstraction.Post → Context → Term → Term → Type 0
-Node t start Γ a e = Subject Γ (lam a e) (start .args .term .now) (start .args .sub .now) (start .args .context .now) (start .args .depth)
+abbrev pub Node : (t : ℕ)
+    → abstraction-lts.Start (abstraction-claims t) (abstraction-at t) abstraction.Post
+    → Context → Term → Term → Type 0
+Node t start Γ a e =
+    Subject Γ (lam a e) (start .args .term .now) (start .args .sub .now) (start .args .context .now) (start .args .depth)
 
 -- The start, from where the annotation is typed; and that place, from where both parts are.
-abbrev pub start-place : (t : ℕ) → abstraction-lts.After-known-told (abstraction-claims t) (abstraction-at t) abstraction.Post → abstraction-lts.Start (abstraction-claims t) (abstraction-at t) abstraction.Post
+abbrev pub start-place : (t : ℕ)
+    → abstraction-lts.After-known-told (abstraction-claims t) (abstraction-at t) abstraction.Post
+    → abstraction-lts.Start (abstraction-claims t) (abstraction-at t) abstraction.Post
 start-place t c = c .before .before .before .before .before .before .before .before .before .before .before .before
 
-abbrev pub annotation-place : (t : ℕ) → abstraction-lts.After-known-told2 (abstraction-claims t) (abstraction-at t) abstraction.Post → abstraction-lts.After-known-told (abstraction-claims t) (abstraction-at t) abstraction.Post
+abbrev pub annotation-place : (t : ℕ)
+    → abstraction-lts.After-known-told2 (abstraction-claims t) (abstraction-at t) abstraction.Post
+    → abstraction-lts.After-known-told (abstraction-claims t) (abstraction-at t) abstraction.Post
 annotation-place t c = c .before .before .before .before .before .before .before .before .before .before .before .before
 
 -- The annotation is typed.
@@ -41,8 +48,10 @@ pub typed-annotation : (t : ℕ) (c : abstraction-lts.After-known-told (abstract
     → Part (star-typed (start .args .limit) Γ (length (start .args .term .now) - length (behind 1 (start .args .sub .now))) a) a
     (start .args .context .now) (start .args .depth) (start .args .work .now) (start .args .top) (annotation .0) (annotation .1 .0)
     (star-part .last .1 .1 .1 .1 .0) (star-part .last .1 .1 .0)
-typed-annotation t c Γ a e S = typed (c .before .before .before .before .before .star-part .ensures Γ a (first S of-lam)) (c .before .annotation .given .1)
+typed-annotation t c Γ a e S =
+    typed (c .before .before .before .before .before .star-part .ensures Γ a (first S of-lam)) (c .before .annotation .given .1)
 
+-- The words reach beyond it.
 pub reach : (t : ℕ) (c : abstraction-lts.After-known-told (abstraction-claims t) (abstraction-at t) abstraction.Post)
     → let start = start-place t c in
     (1 + c .before .annotation .given .0 .0 < length (start .args .sub .now)) × (length (start .args .sub .now) ≤ longest)
@@ -51,12 +60,14 @@ reach t c =
     let P = start .pre .1 in
     reaches (P .3) _ (typed-annotation t c (P .0) (P .1) (P .2) (P .3)) (of-lam {e = P .2})
 
+-- The words that are copied are its own.
 pub copied : (t : ℕ) (c : abstraction-lts.After-known-told (abstraction-claims t) (abstraction-at t) abstraction.Post) (Γ : Context) (a e : Term)
     → let start = start-place t c in
     Node t start Γ a e
     → take (1 + c .before .annotation .given .0 .0 - 1) (drop 1 (start .args .sub .now)) ≡ words a
 copied t c Γ a e S = annotation-words S _ (typed-annotation t c Γ a e S) (of-lam {e = e})
 
+-- Where the body's type is to lie: behind room for the product's word and the annotation, if these fit.
 pub skips : (t : ℕ) (c : abstraction-lts.Joined1 (abstraction-claims t) (abstraction-at t) abstraction.Post)
     → let after-known-told = c .before .before in
     let start = start-place t after-known-told in
@@ -66,6 +77,7 @@ skips t c =
     ⊎-elim (λ w. let h = w .0 .taken in let q = w .1 in (omega arith, λ _. q))
     (λ w. let h = w .0 .left in let q = w .1 in (omega arith, λ x. absurd (omega arith))) (c .if1 .came)
 
+-- Both parts are typed.
 pub both : (t : ℕ) (c : abstraction-lts.After-known-told2 (abstraction-claims t) (abstraction-at t) abstraction.Post) (Γ : Context) (a e : Term)
     → let after-infer = c .before .before .before .before .before in
     let joined1 = after-infer .before .before .before .before .before in
@@ -95,8 +107,11 @@ lengths t c =
 -- The slice is as long as it was.
 pub long : (t : ℕ) (c : abstraction-lts.After-known-told2 (abstraction-claims t) (abstraction-at t) abstraction.Post)
     → length (c .before .before .before .before .before .infer .last .1 .1 .1 .1 .0) ≡ length (start-place t (annotation-place t c) .args .work .now)
-long t c = c .before .before .before .before .before .infer .kept .1 .1 .1 .1 .0 ∙ annotation-place t c .before .before .before .before .before .star-part .kept .1 .1 .1 .1 .0
+long t c =
+    c .before .before .before .before .before .infer .kept .1 .1 .1 .1 .0
+    ∙ annotation-place t c .before .before .before .before .before .star-part .kept .1 .1 .1 .1 .0
 
+-- There is room for two types.
 pub room : (t : ℕ) (c : abstraction-lts.After-known-told2 (abstraction-claims t) (abstraction-at t) abstraction.Post)
     → let after-infer = c .before .before .before .before .before in
     let start = start-place t (annotation-place t c) in

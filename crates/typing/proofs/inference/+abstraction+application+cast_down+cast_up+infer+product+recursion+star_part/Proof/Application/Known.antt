@@ -24,7 +24,7 @@ use Rattle.typing.proofs.inference.application.Reads as application
 use Rattle.typing.proofs.inference.+abstraction+application+cast_down+cast_up+infer+product+recursion+star_part.Lts-application as application-lts
 use Rattle.typing.proofs.inference.+abstraction+application+cast_down+cast_up+infer+product+recursion+star_part.Proof.Measures.{application-at, application-claims}
 
--- The words up to the argument, and the room up to where its type will lie.
+-- So many words of those there are, and the room up to where the argument's type will lie.
 pub record Reach (from sub next room : ℕ) : Type 0 where
   pub within : from ≤ sub
   pub short : sub ≤ longest
@@ -32,25 +32,41 @@ pub record Reach (from sub next room : ℕ) : Type 0 where
   pub small : room * 2 < 2 ^ 63
 
 -- The application, as the subject where the code starts.
-abbrev pub Node : (t : ℕ) → application-lts.Start (application-claims t) (application-at t) application.Post → Context → Term → Term → Type 0
-Node t start Γ f u = Subject Γ (app f u) (start .args .term .now) (start .args .sub .now) (start .args .context .now) (start .args .depth)
+abbrev pub Node : (t : ℕ)
+    → application-lts.Start (application-claims t) (application-at t) application.Post
+    → Context → Term → Term → Type 0
+Node t start Γ f u =
+    Subject Γ (app f u) (start .args .term .now) (start .args .sub .now) (start .args .context .now) (start .args .depth)
+
+-- The start, from where the function is typed; and that place, from where both parts are.
+abbrev pub start-place : (t : ℕ)
+    → application-lts.After-function (application-claims t) (application-at t) application.Post
+    → application-lts.Start (application-claims t) (application-at t) application.Post
+start-place t c = c .before .before .before .before .before .before .before .before .before .before .before
+
+abbrev pub function-place : (t : ℕ)
+    → application-lts.After-known-told2 (application-claims t) (application-at t) application.Post
+    → application-lts.After-function (application-claims t) (application-at t) application.Post
+function-place t c = c .before .before .before .before .before .before .before .before .before .before .before .before .before .before
 
 -- The function is typed.
 pub typed-function : (t : ℕ) (c : application-lts.After-function (application-claims t) (application-at t) application.Post) (Γ : Context) (f u : Term)
-    → let after-infer = c .before .before .before .before in
-    let start = after-infer .before .before .before .before .before .before .before in
+    → let function-infer = c .before .before .before .before .infer in
+    let start = start-place t c in
     Node t start Γ f u
     → Part (infer (start .args .limit) Γ (length (start .args .term .now) - length (behind 1 (start .args .sub .now))) f) f
     (start .args .context .now) (start .args .depth) (start .args .work .now) (start .args .top) (c .function .given .0 .0)
-    (c .function .given .0 .1 .0) (after-infer .infer .last .1 .1 .1 .1 .0) (after-infer .infer .last .1 .1 .0)
-typed-function t c Γ f u S = typed (c .before .before .before .before .infer .ensures Γ f (first S of-app)) (c .function .given .1)
+    (c .function .given .0 .1 .0) (function-infer .last .1 .1 .1 .1 .0) (function-infer .last .1 .1 .0)
+typed-function t c Γ f u S =
+    typed (c .before .before .before .before .infer .ensures Γ f (first S of-app)) (c .function .given .1)
 
+-- The words and the room reach beyond it.
 pub reach : (t : ℕ) (c : application-lts.After-enum-told2 (application-claims t) (application-at t) application.Post)
-    → let start = c .before .before .before .before .before .before .before .before .before .before .before .before .before .before .before .before in
+    → let start = start-place t (c .before .before .before .before .before) in
     let function = c .before .before .before .before .before .function .given .0 in
     Reach (1 + function .0) (length (start .args .sub .now)) (start .args .top + function .1 .0) (length (start .args .work .now))
 reach t c =
-    let start = c .before .before .before .before .before .before .before .before .before .before .before .before .before .before .before .before in
+    let start = start-place t (c .before .before .before .before .before) in
     let P = start .pre .1 in
     let function = typed-function t (c .before .before .before .before .before) (P .0) (P .1) (P .2) (P .3) in
     let fits = type-fits (first (P .3) of-app) _ _ (function .found) in
@@ -61,16 +77,10 @@ reach t c =
       small = start .good .1 .1 .1 .1 .0 .1;
     }
 
--- From where both are typed: the place where the function was, and the start.
-abbrev pub function-place : (t : ℕ) → application-lts.After-known-told2 (application-claims t) (application-at t) application.Post → application-lts.After-function (application-claims t) (application-at t) application.Post
-function-place t c = c .before .before .before .before .before .before .before .before .before .before .before .before .before .before
-
-abbrev pub start-place : (t : ℕ) → application-lts.After-known-told2 (application-claims t) (application-at t) application.Post → application-lts.Start (application-claims t) (application-at t) application.Post
-start-place t c = function-place t c .before .before .before .before .before .before .before .before .before .before .before
-
+-- Function and argument are typed.
 pub calls : (t : ℕ) (c : application-lts.After-known-told2 (application-claims t) (application-at t) application.Post) (Γ : Context) (f u : Term)
     → let function = function-place t c .function .given .0 in
-    let start = start-place t c in
+    let start = start-place t (function-place t c) in
     Node t start Γ f u
     → Called (start .args .limit) Γ (length (start .args .term .now) - length (start .args .sub .now)) f u
     (start .args .context .now) (start .args .depth) (start .args .work .now) (start .args .top)
@@ -85,17 +95,19 @@ calls t c Γ f u S =
 
 -- The slice is as long as it was.
 pub long : (t : ℕ) (c : application-lts.After-known-told2 (application-claims t) (application-at t) application.Post)
-    → length (c .before .before .before .before .before .infer2 .last .1 .1 .1 .1 .0) ≡ length (start-place t c .args .work .now)
-long t c = c .before .before .before .before .before .infer2 .kept .1 .1 .1 .1 .0 ∙ function-place t c .before .before .before .before .infer .kept .1 .1 .1 .1 .0
+    → length (c .before .before .before .before .before .infer2 .last .1 .1 .1 .1 .0) ≡ length (start-place t (function-place t c) .args .work .now)
+long t c =
+    c .before .before .before .before .before .infer2 .kept .1 .1 .1 .1 .0
+    ∙ function-place t c .before .before .before .before .infer .kept .1 .1 .1 .1 .0
 
 -- The words up to the end of the argument, the room up to its type, and a first word of the function's type.
 pub reach-both : (t : ℕ) (c : application-lts.After-known-told2 (application-claims t) (application-at t) application.Post)
     → let function = function-place t c .function .given .0 in
-    let start = start-place t c in
+    let start = start-place t (function-place t c) in
     Reach (1 + function .0 + c .before .argument .given .0 .0) (length (start .args .sub .now)) (start .args .top + function .1 .0) (length (start .args .work .now))
     × (1 ≤ function .1 .0)
 reach-both t c =
-    let start = start-place t c in
+    let start = start-place t (function-place t c) in
     let P = start .pre .1 in
     let F = reach t (c .before .before .before .before .before .before .before .before .before) in
     let C = calls t c (P .0) (P .1) (P .2) (P .3) in (
@@ -108,16 +120,18 @@ reach-both t c =
       omega (arith, C .long),
     )
 
+-- The walk measures the domain.
 pub domain-long : (t : ℕ) (c : application-lts.After-span (application-claims t) (application-at t) application.Post) (Γ : Context) (f u : Term)
     → let after-argument = c .before .before .before in
-    let start = start-place t after-argument in
+    let start = start-place t (function-place t after-argument) in
     (S : Node t start Γ f u)
     → c .span .result ≡ size (calls t after-argument Γ f u S .domain)
 domain-long t c Γ f u S = c .span .ensures .0 ∙ domain-span (calls t (c .before .before .before) Γ f u S)
 
+-- If the argument's type is the domain, the type is the codomain with the argument put in, measured.
 pub measured : (t : ℕ) (c : application-lts.Else2 (application-claims t) (application-at t) application.Post) (Γ : Context) (f u : Term)
     → let after-argument = c .before .before .before .before .before .before .before in
-    let start = start-place t after-argument in
+    let start = start-place t (function-place t after-argument) in
     (S : Node t start Γ f u)
     → let p = length (start .args .term .now) - length (start .args .sub .now) in
     infer (start .args .limit) Γ p (app f u) ≡ measure (start .args .limit) p (substitute 0 u (calls t after-argument Γ f u S .codomain))
@@ -127,9 +141,10 @@ measured t c Γ f u S =
     right _ Γ _ f u (C .function) (C .argument)
     (compared-argument C (domain-long t after-span Γ f u S) (c .before .before .before .if1 .left) (c .before .same .ensures) .1 (c .if2 .left))
 
+-- That is what is written.
 pub puts : (t : ℕ) (c : application-lts.After-put-in (application-claims t) (application-at t) application.Post) (Γ : Context) (f u : Term)
     → let after-argument = c .before .before .before .before .before .before .before .before .before .before in
-    let start = start-place t after-argument in
+    let start = start-place t (function-place t after-argument) in
     (S : Node t start Γ f u)
     → Puts (substitute 0 u (calls t after-argument Γ f u S .codomain))
     (after-argument .before .before .before .before .before .infer2 .last .1 .1 .1 .1 .0) (start .args .top) (start .args .limit)
@@ -145,5 +160,6 @@ puts t c Γ f u S =
 
 -- It is still as long once the codomain is written.
 pub long-put : (t : ℕ) (c : application-lts.After-put-in (application-claims t) (application-at t) application.Post)
-    → length (c .put-in .last .1 .1 .0) ≡ length (start-place t (c .before .before .before .before .before .before .before .before .before .before) .args .work .now)
-long-put t c = c .put-in .kept .1 .1 .0 ∙ long t (c .before .before .before .before .before .before .before .before .before .before)
+    → length (c .put-in .last .1 .1 .0) ≡ length (start-place t (function-place t (c .before .before .before .before .before .before .before .before .before .before)) .args .work .now)
+long-put t c =
+    c .put-in .kept .1 .1 .0 ∙ long t (c .before .before .before .before .before .before .before .before .before .before)

@@ -13,6 +13,7 @@ use Rattle.calculus.specs.Words.{words, longest}
 use Rattle.calculus.specs.Rules.{Context}
 use Rattle.calculus.specs.Step.{step}
 use Rattle.typing.specs.Inference.{Subject, star-typed}
+use Rattle.typing.specs.Moving.{Moves}
 use Rattle.typing.proofs.Nodes.{of-castup}
 use Rattle.typing.proofs.Subjects.{behind, first}
 use Rattle.typing.proofs.Rooms.{room-two}
@@ -26,13 +27,18 @@ use Rattle.typing.proofs.inference.+abstraction+application+cast_down+c
 
 -- The up cast, as the subject where the code starts.
 abbrev pub Node : (t : ℕ) → cast-up-lts.Start (cast-up-claims t) (cast-up-at t) cast-up.Post → Context → Term → Term → Type 0
-Node t start Γ a e = Subject Γ (castup a e) (start .args .term .now) (start .args .sub .now) (start .args .context .now) (start .args .depth)
+Node t start Γ a e =
+    Subject Γ (castup a e) (start .args .term .now) (start .args .sub .now) (start .args .context .now) (start .args .depth)
 
 -- The start, from where the annotation is typed; and that place, from where both parts are.
-abbrev pub start-place : (t : ℕ) → cast-up-lts.After-known-told (cast-up-claims t) (cast-up-at t) cast-up.Post → cast-up-lts.Start (cast-up-claims t) (cast-up-at t) cast-up.Post
+abbrev pub start-place : (t : ℕ)
+    → cast-up-lts.After-known-told (cast-up-claims t) (cast-up-at t) cast-up.Post
+    → cast-up-lts.Start (cast-up-claims t) (cast-up-at t) cast-up.Post
 start-place t c = c .before .before .before .before .before .before .before .before .before .before .before .before
 
-abbrev pub annotation-place : (t : ℕ) → cast-up-lts.After-known-told2 (cast-up-claims t) (cast-up-at t) cast-up.Post → cast-up-lts.After-known-told (cast-up-claims t) (cast-up-at t) cast-up.Post
+abbrev pub annotation-place : (t : ℕ)
+    → cast-up-lts.After-known-told2 (cast-up-claims t) (cast-up-at t) cast-up.Post
+    → cast-up-lts.After-known-told (cast-up-claims t) (cast-up-at t) cast-up.Post
 annotation-place t c = c .before .before .before .before .before .before .before .before .before
 
 -- The annotation is typed.
@@ -44,8 +50,10 @@ pub typed-annotation : (t : ℕ) (c : cast-up-lts.After-known-told (cast-up-clai
     → Part (star-typed (start .args .limit) Γ (length (start .args .term .now) - length (behind 1 (start .args .sub .now))) a) a
     (start .args .context .now) (start .args .depth) (start .args .work .now) (start .args .top) (annotation .0) (annotation .1 .0)
     (star-part .last .1 .1 .1 .1 .0) (star-part .last .1 .1 .0)
-typed-annotation t c Γ a e S = typed (c .before .before .before .before .before .star-part .ensures Γ a (first S of-castup)) (c .before .annotation .given .1)
+typed-annotation t c Γ a e S =
+    typed (c .before .before .before .before .before .star-part .ensures Γ a (first S of-castup)) (c .before .annotation .given .1)
 
+-- The words reach beyond it.
 pub reach : (t : ℕ) (c : cast-up-lts.After-known-told (cast-up-claims t) (cast-up-at t) cast-up.Post)
     → let start = start-place t c in
     (1 + c .before .annotation .given .0 .0 < length (start .args .sub .now)) × (length (start .args .sub .now) ≤ longest)
@@ -54,12 +62,14 @@ reach t c =
     let P = start .pre .1 in
     reaches (P .3) _ (typed-annotation t c (P .0) (P .1) (P .2) (P .3)) (of-castup {e = P .2})
 
+-- The words that are copied are its own.
 pub copied : (t : ℕ) (c : cast-up-lts.After-known-told (cast-up-claims t) (cast-up-at t) cast-up.Post) (Γ : Context) (a e : Term)
     → let start = start-place t c in
     Node t start Γ a e
     → take (1 + c .before .annotation .given .0 .0 - 1) (drop 1 (start .args .sub .now)) ≡ words a
 copied t c Γ a e S = annotation-words S _ (typed-annotation t c Γ a e S) (of-castup {e = e})
 
+-- Both parts are typed.
 pub both : (t : ℕ) (c : cast-up-lts.After-known-told2 (cast-up-claims t) (cast-up-at t) cast-up.Post) (Γ : Context) (a e : Term)
     → let after-infer = c .before .before .before .before .before in
     let after-known-told = annotation-place t c in
@@ -77,8 +87,11 @@ both t c Γ a e S =
 -- The slice is as long as it was.
 pub long : (t : ℕ) (c : cast-up-lts.After-known-told2 (cast-up-claims t) (cast-up-at t) cast-up.Post)
     → length (c .before .before .before .before .before .infer .last .1 .1 .1 .1 .0) ≡ length (start-place t (annotation-place t c) .args .work .now)
-long t c = c .before .before .before .before .before .infer .kept .1 .1 .1 .1 .0 ∙ annotation-place t c .before .before .before .before .before .star-part .kept .1 .1 .1 .1 .0
+long t c =
+    c .before .before .before .before .before .infer .kept .1 .1 .1 .1 .0
+    ∙ annotation-place t c .before .before .before .before .before .star-part .kept .1 .1 .1 .1 .0
 
+-- There is room behind the body's type.
 pub room : (t : ℕ) (c : cast-up-lts.After-known-told2 (cast-up-claims t) (cast-up-at t) cast-up.Post)
     → let after-infer = c .before .before .before .before .before in
     let start = start-place t (annotation-place t c) in
@@ -91,18 +104,26 @@ room t c =
     let B = both t c (P .0) (P .1) (P .2) (P .3) in
     omega (arith, B .long, B .fits, room-two (P .4), start .good .1 .1 .1 .1 .0 .1, long t c)
 
+-- What the step writes behind the body's type.
+pub moves : (t : ℕ) (c : cast-up-lts.After-step-into (cast-up-claims t) (cast-up-at t) cast-up.Post) (Γ : Context) (a e : Term)
+    → let after-known-told2 = c .before .before .before in
+    let start = start-place t (annotation-place t after-known-told2) in
+    Node t start Γ a e
+    → Moves (step a) (after-known-told2 .before .before .before .before .before .infer .last .1 .1 .1 .1 .0) (start .args .top + after-known-told2 .before .body .given .0 .1 .0)
+    (start .args .limit) (c .step-into .result) (c .step-into .last .1 .1 .0)
+moves t c Γ a e S = c .step-into .ensures a (copied t (annotation-place t (c .before .before .before)) Γ a e S)
+
+-- It is the annotation's next state.
 pub next-state : (t : ℕ) (c : cast-up-lts.After-known-told3 (cast-up-claims t) (cast-up-at t) cast-up.Post) (Γ : Context) (a e : Term)
     → let after-step-into = c .before .before .before .before .before in
-    let after-body = after-step-into .before .before .before .before in
-    let after-infer = after-body .before .before .before .before in
-    let start = start-place t (after-infer .before .before .before .before) in
+    let after-known-told2 = after-step-into .before .before .before in
+    let start = start-place t (annotation-place t after-known-told2) in
     Node t start Γ a e
-    → Moved (step a) (after-infer .infer .last .1 .1 .1 .1 .0) (start .args .top + after-body .body .given .0 .1 .0) (start .args .limit) (c .before .count .given .0 .0) (after-step-into .step-into .last .1 .1 .0)
-next-state t c Γ a e S =
-    let after-step-into = c .before .before .before .before .before in
-    let after-known-told = annotation-place t (after-step-into .before .before .before) in
-    moved _ _ _ _ _ (step a) (after-step-into .step-into .ensures a (copied t after-known-told Γ a e S)) (c .before .count .given .1)
+    → Moved (step a) (after-known-told2 .before .before .before .before .before .infer .last .1 .1 .1 .1 .0) (start .args .top + after-known-told2 .before .body .given .0 .1 .0)
+    (start .args .limit) (c .before .count .given .0 .0) (after-step-into .step-into .last .1 .1 .0)
+next-state t c Γ a e S = moved _ _ _ _ _ (step a) (moves t (c .before .before .before .before .before) Γ a e S) (c .before .count .given .1)
 
+-- Whether that is the body's type.
 pub compared : (t : ℕ) (c : cast-up-lts.After-same (cast-up-claims t) (cast-up-at t) cast-up.Post) (Γ : Context) (a e : Term)
     → let after-known-told2 = c .before .before .before .before .before .before .before .before .before .before .before in
     let start = start-place t (annotation-place t after-known-told2) in
@@ -114,5 +135,5 @@ compared t c Γ a e S =
     let B = both t after-known-told2 Γ a e S in
     let m = next-state t (c .before .before .before) Γ a e S in
     let r = room t after-known-told2 in
-    let long = sym (c .before .before .if1 .left) ∙ m .long in
-    compared-behind _ _ _ (m .state) (B .type) (B .lies) (m .stored) long (omega arith) (c .same .ensures)
+    let as-long = sym (c .before .before .if1 .left) ∙ m .long in
+    compared-behind _ _ _ (m .state) (B .type) (B .lies) (m .stored) as-long (omega arith) (c .same .ensures)

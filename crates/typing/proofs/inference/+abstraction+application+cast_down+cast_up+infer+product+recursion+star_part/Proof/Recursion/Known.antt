@@ -30,14 +30,21 @@ use Rattle.typing.proofs.inference.+abstraction+application+cast_down+c
 use Rattle.typing.proofs.inference.+abstraction+application+cast_down+cast_up+infer+product+recursion+star_part.Proof.Measures.{recursion-at, recursion-claims}
 
 -- The recursion, as the subject where the code starts.
-abbrev pub Node : (t : ℕ) → recursion-lts.Start (recursion-claims t) (recursion-at t) recursion.Post → Context → Term → Term → Type 0
-Node t start Γ a e = Subject Γ (mu a e) (start .args .term .now) (start .args .sub .now) (start .args .context .now) (start .args .depth)
+abbrev pub Node : (t : ℕ)
+    → recursion-lts.Start (recursion-claims t) (recursion-at t) recursion.Post
+    → Context → Term → Term → Type 0
+Node t start Γ a e =
+    Subject Γ (mu a e) (start .args .term .now) (start .args .sub .now) (start .args .context .now) (start .args .depth)
 
 -- The start, from where the annotation is typed; and that place, from where both parts are.
-abbrev pub start-place : (t : ℕ) → recursion-lts.After-known-told (recursion-claims t) (recursion-at t) recursion.Post → recursion-lts.Start (recursion-claims t) (recursion-at t) recursion.Post
+abbrev pub start-place : (t : ℕ)
+    → recursion-lts.After-known-told (recursion-claims t) (recursion-at t) recursion.Post
+    → recursion-lts.Start (recursion-claims t) (recursion-at t) recursion.Post
 start-place t c = c .before .before .before .before .before .before .before .before .before .before .before .before
 
-abbrev pub annotation-place : (t : ℕ) → recursion-lts.After-known-told2 (recursion-claims t) (recursion-at t) recursion.Post → recursion-lts.After-known-told (recursion-claims t) (recursion-at t) recursion.Post
+abbrev pub annotation-place : (t : ℕ)
+    → recursion-lts.After-known-told2 (recursion-claims t) (recursion-at t) recursion.Post
+    → recursion-lts.After-known-told (recursion-claims t) (recursion-at t) recursion.Post
 annotation-place t c = c .before .before .before .before .before .before .before .before .before .before
 
 -- The annotation is typed.
@@ -49,8 +56,10 @@ pub typed-annotation : (t : ℕ) (c : recursion-lts.After-known-told (recursion-
     → Part (star-typed (start .args .limit) Γ (length (start .args .term .now) - length (behind 1 (start .args .sub .now))) a) a
     (start .args .context .now) (start .args .depth) (start .args .work .now) (start .args .top) (annotation .0) (annotation .1 .0)
     (star-part .last .1 .1 .1 .1 .0) (star-part .last .1 .1 .0)
-typed-annotation t c Γ a e S = typed (c .before .before .before .before .before .star-part .ensures Γ a (first S of-mu)) (c .before .annotation .given .1)
+typed-annotation t c Γ a e S =
+    typed (c .before .before .before .before .before .star-part .ensures Γ a (first S of-mu)) (c .before .annotation .given .1)
 
+-- The words reach beyond it.
 pub reach : (t : ℕ) (c : recursion-lts.After-known-told (recursion-claims t) (recursion-at t) recursion.Post)
     → let start = start-place t c in
     (1 + c .before .annotation .given .0 .0 < length (start .args .sub .now)) × (length (start .args .sub .now) ≤ longest)
@@ -59,12 +68,14 @@ reach t c =
     let P = start .pre .1 in
     reaches (P .3) _ (typed-annotation t c (P .0) (P .1) (P .2) (P .3)) (of-mu {e = P .2})
 
+-- The words that are copied are its own.
 pub copied : (t : ℕ) (c : recursion-lts.After-known-told (recursion-claims t) (recursion-at t) recursion.Post) (Γ : Context) (a e : Term)
     → let start = start-place t c in
     Node t start Γ a e
     → take (1 + c .before .annotation .given .0 .0 - 1) (drop 1 (start .args .sub .now)) ≡ words a
 copied t c Γ a e S = annotation-words S _ (typed-annotation t c Γ a e S) (of-mu {e = e})
 
+-- Both parts are typed.
 pub both : (t : ℕ) (c : recursion-lts.After-known-told2 (recursion-claims t) (recursion-at t) recursion.Post) (Γ : Context) (a e : Term)
     → let after-infer = c .before .before .before .before .before in
     let after-known-told = annotation-place t c in
@@ -85,8 +96,11 @@ both t c Γ a e S =
 -- The slice is as long as it was.
 pub long : (t : ℕ) (c : recursion-lts.After-known-told2 (recursion-claims t) (recursion-at t) recursion.Post)
     → length (c .before .before .before .before .before .infer .last .1 .1 .1 .1 .0) ≡ length (start-place t (annotation-place t c) .args .work .now)
-long t c = c .before .before .before .before .before .infer .kept .1 .1 .1 .1 .0 ∙ annotation-place t c .before .before .before .before .before .star-part .kept .1 .1 .1 .1 .0
+long t c =
+    c .before .before .before .before .before .infer .kept .1 .1 .1 .1 .0
+    ∙ annotation-place t c .before .before .before .before .before .star-part .kept .1 .1 .1 .1 .0
 
+-- There is room behind the body's type.
 pub room : (t : ℕ) (c : recursion-lts.After-known-told2 (recursion-claims t) (recursion-at t) recursion.Post)
     → let after-infer = c .before .before .before .before .before in
     let start = start-place t (annotation-place t c) in
@@ -99,6 +113,7 @@ room t c =
     let B = both t c (P .0) (P .1) (P .2) (P .3) in
     omega (arith, B .long, B .fits, room-two (P .4), start .good .1 .1 .1 .1 .0 .1, long t c)
 
+-- What is written there is the raised annotation.
 pub behind-type : (t : ℕ) (c : recursion-lts.After-raise (recursion-claims t) (recursion-at t) recursion.Post) (Γ : Context) (a e : Term)
     → let after-body = c .before .before .before .before .before in
     let after-infer = after-body .before .before .before .before in
@@ -112,6 +127,7 @@ behind-type t c Γ a e S =
     wrote (raise 1 0 a) (c .raise .ensures) (ap (raised 1) (copied t after-known-told Γ a e S) ∙ raised-words 1 a)
     (omega (arith, room t after-known-told2, B .read, c .before .before .before .if1 .left, raise-size 1 0 a))
 
+-- Whether that is the body's type.
 pub compared : (t : ℕ) (c : recursion-lts.After-same (recursion-claims t) (recursion-at t) recursion.Post) (Γ : Context) (a e : Term)
     → let after-known-told2 = c .before .before .before .before .before .before .before .before in
     let start = start-place t (annotation-place t after-known-told2) in
@@ -125,5 +141,5 @@ compared t c Γ a e S =
     let B = both t after-known-told2 Γ a e S in
     let x = behind-type t after-raise Γ a e S in
     let r = room t after-known-told2 in
-    let long = else1 .if1 .left ∙ B .read ∙ sym (raise-size 1 0 a) in
-    compared-behind _ _ _ (raise 1 0 a) (B .type) (B .lies) x long (omega arith) (c .same .ensures)
+    let as-long = else1 .if1 .left ∙ B .read ∙ sym (raise-size 1 0 a) in
+    compared-behind _ _ _ (raise 1 0 a) (B .type) (B .lies) x as-long (omega arith) (c .same .ensures)
