@@ -19,13 +19,13 @@ pub fn front(words: &[u16], count: usize) -> &[u16]
 }
 
 // The first `count` bytes, or all where there are fewer.
-pub fn filled(out: &[u8], count: usize) -> &[u8]
-    ensures { λ r. ⌜ now r ≡ take count (now (out .entry)) ⌝ }
+pub fn filled(buffer: &[u8], count: usize) -> &[u8]
+    ensures { λ r. ⌜ now r ≡ take count (now (buffer .entry)) ⌝ }
 {
-    if count <= out.len() {
-        &out[..count]
+    if count <= buffer.len() {
+        &buffer[..count]
     } else {
-        out
+        buffer
     }
 }
 
