@@ -1,9 +1,10 @@
-// A test program: check and run on slices of every boundary length, filled with garbage, with what they hold afterwards. A line of a
-// slice is the words that changed, or how many zeros it begins with, and how many words at its end are as they were.
+// A test program: checks and runs on slices of every boundary length, filled with garbage, one a line, with what the slices hold
+// afterwards.
 use feguavy::CheckedNumbers;
 use feguavy::RanNumbers;
 use feguavy::feguavy_check;
 use feguavy::feguavy_run;
+use text::front;
 ghost use Prim.Native.Nat.{_≤_};
 
 // The longest slices that are lent: three words more than a check asks for at the greatest limit.
@@ -16,6 +17,7 @@ fn garbage(i: usize) -> u16 {
     (i % 20000) as u16 + 40000
 }
 
+// Fills the words with garbage.
 fn spoil(words: &mut [u16]) {
     let mut i = 0;
     while i < words.len() {
@@ -24,6 +26,7 @@ fn spoil(words: &mut [u16]) {
     }
 }
 
+// The lesser of the two.
 fn least(a: usize, b: usize) -> usize
     ensures { λ r. ⌜ (r ≤ a) × (r ≤ b) ⌝ }
 {
@@ -65,7 +68,7 @@ fn put_work(words: &[u16], out: &mut [u8], at: usize) -> usize {
 fn put_result(words: &[u16], out: &mut [u8], at: usize) -> usize {
     let sized = text::named(b" out ", words.len() as u64, out, at);
     let barred = text::bytes(b" |", out, sized);
-    text::spaced(text::front(words, kept_from(words)), out, barred)
+    text::spaced(front(words, kept_from(words)), out, barred)
 }
 
 // ` | WORDS ->`.
@@ -82,6 +85,7 @@ fn put_slices(work: &[u16], result: &[u16], out: &mut [u8], at: usize) -> usize 
     text::byte(b'\n', out, ended)
 }
 
+// A check on slices that hold garbage.
 fn checked(term: &[u16], limit: u32, work: &mut [u16], result: &mut [u16]) -> CheckedNumbers {
     spoil(work);
     spoil(result);
@@ -96,6 +100,7 @@ fn put_checked(term: &[u16], limit: u32, r: CheckedNumbers, out: &mut [u8]) -> u
     text::numbers(&[r.answer, r.place, r.length], out, termed)
 }
 
+// A check, and the line that tells of it.
 fn try_check(term: &[u16], limit: u32, work: &mut [u16], result: &mut [u16]) {
     let mut out = [0u8; 16384];
     let r = checked(term, limit, work, result);
@@ -104,6 +109,7 @@ fn try_check(term: &[u16], limit: u32, work: &mut [u16], result: &mut [u16]) {
     text::print(&out, all);
 }
 
+// A run on slices that hold garbage.
 fn ran(
     term: &[u16],
     budget: u32,
@@ -128,6 +134,7 @@ fn put_ran(term: &[u16], budget: u32, allowance: u32, r: RanNumbers, out: &mut [
     )
 }
 
+// A run, and the line that tells of it.
 fn try_run(term: &[u16], budget: u32, allowance: u32, work: &mut [u16], result: &mut [u16]) {
     let mut out = [0u8; 16384];
     let r = ran(term, budget, allowance, work, result);
@@ -241,8 +248,8 @@ fn all(term: &[u16]) {
     run_budgets(term);
 }
 
-// Star, a down cast on an up cast, a term that is stuck, the identity, one that runs on, one that grows; and words that are no term: a
-// list that ends too early, a word with no meaning, no words.
+// Star, a down cast on an up cast, a term that is stuck, the identity, one that runs on, one that grows; and words that are no
+// term: a list that ends too early, a word with no meaning, no words.
 fn main() {
     all(&[0]);
     all(&[1, 3, 2, 4, 0, 16, 0, 0]);

@@ -1,5 +1,5 @@
--- Two appends in a row are one of both texts. Where the first fits, the second begins where its stores end. Where it does not, the
--- answer is at the end or past it, and the second stores nothing, wherever it begins.
+-- Two appends in a row are one of both texts. Where the first fits, the second begins where its stores end. Where it does not,
+-- the answer is at the end or past it, and the second stores nothing, wherever it begins.
 use Prim.Native.Nat.{ℕ, suc, _+_, _-_, _≤_, _<_, min}
 use mathlib.Core.List.{List, [], _∷_, _++_}
 use mathlib.Core.Logic.{⊎-elim}

@@ -59,7 +59,7 @@ pub fn bytes(text: &[u8], out: &mut [u8], at: usize) -> usize
 }
 
 // Appends a number in decimal.
-pub fn decimal(value: u64, out: &mut [u8], at: usize) -> usize
+fn decimal(value: u64, out: &mut [u8], at: usize) -> usize
     ensures { λ r. ⌜ Appends (decimal value) (now (out .entry)) at r (now (out .exit)) ⌝ }
 {
     let mut digits = [0u8; 20];
