@@ -37,7 +37,8 @@ fn checked(term: &[u16], limit: u32, work: &mut [u16], out: &mut [u8], at: usize
 
 // `ran END STEPS LEFT |`.
 fn ended(end: u32, steps: u32, left: u32, out: &mut [u8], at: usize) -> usize
-    ensures { λ r. ⌜ Appends (ascii "ran" ++ spaced (end ∷ steps ∷ left ∷ []) ++ ascii " |") (now (out .entry)) at r (now (out .exit)) ⌝ }
+    ensures { λ r. ⌜ Appends (ascii "ran" ++ spaced (end ∷ steps ∷ left ∷ []) ++ ascii " |")
+        (now (out .entry)) at r (now (out .exit)) ⌝ }
 {
     let named = text::bytes(b"ran", out, at);
     let numbered = text::numbers(&[end, steps, left], out, named);

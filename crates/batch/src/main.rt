@@ -44,6 +44,7 @@ fn take(
     }
 }
 
+// Takes the bytes one by one.
 fn take_all(
     before: Progress,
     input: &[u8],

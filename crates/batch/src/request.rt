@@ -1,5 +1,5 @@
-// A request line, read byte by byte: fields of decimal digits parted by spaces, tabs or carriage returns. Words beyond the 1,025th
-// are tested and not kept: a term of so many words is refused by its length.
+// A request line, read byte by byte: fields of decimal digits parted by spaces, tabs or carriage returns. Words beyond the
+// 1,025th are tested and not kept: a term of so many words is refused by its length.
 
 // What is known of a line so far.
 pub struct Request {

@@ -82,7 +82,7 @@ fn answer(words: &[u16], count: usize, output: &mut [u16], state: &mut [u16]) ->
     judge(front(words, count / 2), output, state)
 }
 
-// `NAMEVALUE` and a line feed.
+// A name and its value, with a line feed.
 fn line(name: &[u8], value: u32, out: &mut [u8], at: usize) -> usize
     ensures { λ r. ⌜ Appends (now (name .entry) ++ decimal value ++ (10 ∷ [])) (now (out .entry)) at r (now (out .exit)) ⌝ }
 {
@@ -90,9 +90,10 @@ fn line(name: &[u8], value: u32, out: &mut [u8], at: usize) -> usize
     text::byte(b'\n', out, valued)
 }
 
-// `NAMEWORDS` and a line feed.
+// A name and its words, with a line feed.
 fn list_line(name: &[u8], words: &[u16], out: &mut [u8], at: usize) -> usize
-    ensures { λ r. ⌜ Appends (now (name .entry) ++ list (now (words .entry)) ++ (10 ∷ [])) (now (out .entry)) at r (now (out .exit)) ⌝ }
+    ensures { λ r. ⌜ Appends (now (name .entry) ++ list (now (words .entry)) ++ (10 ∷ []))
+        (now (out .entry)) at r (now (out .exit)) ⌝ }
 {
     let named = text::bytes(name, out, at);
     let listed = text::list(words, out, named);

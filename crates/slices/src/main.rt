@@ -1,16 +1,23 @@
-// A test program: check and run on slices of every boundary length, filled with garbage, with what they hold afterwards. A line of a
-// slice is the words that changed, or how many zeros it begins with, and how many words at its end are as they were.
+// A test program: checks and runs on slices of every boundary length, filled with garbage, one a line, with what the slices hold
+// afterwards.
 use feguavy::CheckedNumbers;
 use feguavy::RanNumbers;
 use feguavy::feguavy_check;
 use feguavy::feguavy_run;
+use text::front;
 ghost use Prim.Native.Nat.{_≤_};
+
+// The longest slices that are lent: three words more than a check asks for at the greatest limit.
+const WORK: usize = 524291;
+
+const RESULT: usize = 1027;
 
 // The word that a slice holds at `i` before a call: never 0.
 fn garbage(i: usize) -> u16 {
     (i % 20000) as u16 + 40000
 }
 
+// Fills the words with garbage.
 fn spoil(words: &mut [u16]) {
     let mut i = 0;
     while i < words.len() {
@@ -19,6 +26,7 @@ fn spoil(words: &mut [u16]) {
     }
 }
 
+// The lesser of the two.
 fn least(a: usize, b: usize) -> usize
     ensures { λ r. ⌜ (r ≤ a) × (r ≤ b) ⌝ }
 {
@@ -60,7 +68,7 @@ fn put_work(words: &[u16], out: &mut [u8], at: usize) -> usize {
 fn put_result(words: &[u16], out: &mut [u8], at: usize) -> usize {
     let sized = text::named(b" out ", words.len() as u64, out, at);
     let barred = text::bytes(b" |", out, sized);
-    text::spaced(text::front(words, kept_from(words)), out, barred)
+    text::spaced(front(words, kept_from(words)), out, barred)
 }
 
 // ` | WORDS ->`.
@@ -77,6 +85,7 @@ fn put_slices(work: &[u16], result: &[u16], out: &mut [u8], at: usize) -> usize 
     text::byte(b'\n', out, ended)
 }
 
+// A check on slices that hold garbage.
 fn checked(term: &[u16], limit: u32, work: &mut [u16], result: &mut [u16]) -> CheckedNumbers {
     spoil(work);
     spoil(result);
@@ -91,6 +100,7 @@ fn put_checked(term: &[u16], limit: u32, r: CheckedNumbers, out: &mut [u8]) -> u
     text::numbers(&[r.answer, r.place, r.length], out, termed)
 }
 
+// A check, and the line that tells of it.
 fn try_check(term: &[u16], limit: u32, work: &mut [u16], result: &mut [u16]) {
     let mut out = [0u8; 16384];
     let r = checked(term, limit, work, result);
@@ -99,6 +109,7 @@ fn try_check(term: &[u16], limit: u32, work: &mut [u16], result: &mut [u16]) {
     text::print(&out, all);
 }
 
+// A run on slices that hold garbage.
 fn ran(
     term: &[u16],
     budget: u32,
@@ -123,6 +134,7 @@ fn put_ran(term: &[u16], budget: u32, allowance: u32, r: RanNumbers, out: &mut [
     )
 }
 
+// A run, and the line that tells of it.
 fn try_run(term: &[u16], budget: u32, allowance: u32, work: &mut [u16], result: &mut [u16]) {
     let mut out = [0u8; 16384];
     let r = ran(term, budget, allowance, work, result);
@@ -132,7 +144,7 @@ fn try_run(term: &[u16], budget: u32, allowance: u32, work: &mut [u16], result: 
 }
 
 // A check on the first `room` and `size` words, where there are so many.
-fn check_on(
+fn check_parts(
     term: &[u16],
     limit: u32,
     work: &mut [u16],
@@ -147,8 +159,15 @@ fn check_on(
     }
 }
 
+// A check on slices of `room` and `size` words.
+fn check_on(term: &[u16], limit: u32, room: usize, size: usize) {
+    let mut work = [0u16; WORK];
+    let mut result = [0u16; RESULT];
+    check_parts(term, limit, &mut work, room, &mut result, size);
+}
+
 // A run on the first `room` and `size` words, where there are so many.
-fn run_on(
+fn run_parts(
     term: &[u16],
     budget: u32,
     allowance: u32,
@@ -170,104 +189,75 @@ fn run_on(
     }
 }
 
-// A check at each boundary length for a limit.
-fn check_all(term: &[u16], limit: u32, work: &mut [u16], result: &mut [u16]) {
-    let room = least(512 * (limit as usize), work.len());
-    let size = least(limit as usize, result.len());
-    let more = least(room + 3, work.len());
-    let longer = least(size + 3, result.len());
-    check_on(term, limit, work, room, result, size);
-    check_on(term, limit, work, more, result, longer);
-    check_short(term, limit, work, room, result, size);
+// A run on slices of `room` and `size` words.
+fn run_on(term: &[u16], budget: u32, allowance: u32, room: usize, size: usize) {
+    let mut work = [0u16; 4099];
+    let mut result = [0u16; RESULT];
+    run_parts(term, budget, allowance, &mut work, room, &mut result, size);
 }
 
-// A check where a slice is empty, or one word short.
-fn check_short(
-    term: &[u16],
-    limit: u32,
-    work: &mut [u16],
-    room: usize,
-    result: &mut [u16],
-    size: usize,
-) {
-    check_on(term, limit, work, 0, result, size);
-    check_on(term, limit, work, room, result, 0);
+// A check at each boundary length for a limit.
+fn check_all(term: &[u16], limit: u32) {
+    let room = least(512 * (limit as usize), WORK);
+    let size = least(limit as usize, RESULT);
+    check_on(term, limit, room, size);
+    check_on(term, limit, least(room + 3, WORK), least(size + 3, RESULT));
+    check_on(term, limit, 0, size);
+    check_on(term, limit, room, 0);
     if 0 < room {
         if 0 < size {
-            check_on(term, limit, work, room - 1, result, size);
-            check_on(term, limit, work, room, result, size - 1);
-            check_on(term, limit, work, room - 1, result, size - 1);
+            check_on(term, limit, room - 1, size);
+            check_on(term, limit, room, size - 1);
+            check_on(term, limit, room - 1, size - 1);
         }
     }
 }
 
-fn check_limits(term: &[u16], limits: &[u32], work: &mut [u16], result: &mut [u16]) {
-    let mut i = 0;
-    while i < limits.len() {
-        check_all(term, limits[i], work, result);
-        i += 1;
-    }
+fn check_limits(term: &[u16]) {
+    check_all(term, 0);
+    check_all(term, 1);
+    check_all(term, 4);
+    check_all(term, 5);
+    check_all(term, 64);
+    check_all(term, 1023);
+    check_all(term, 1024);
+    check_all(term, 1025);
+    check_all(term, 4294967295);
 }
 
 // A run at each boundary length.
-fn run_all(term: &[u16], budget: u32, allowance: u32, work: &mut [u16], result: &mut [u16]) {
-    run_on(term, budget, allowance, work, 4096, result, 1024);
-    run_on(term, budget, allowance, work, 4099, result, 1027);
-    run_short(term, budget, allowance, work, result);
+fn run_all(term: &[u16], budget: u32, allowance: u32) {
+    run_on(term, budget, allowance, 4096, 1024);
+    run_on(term, budget, allowance, 4099, 1027);
+    run_on(term, budget, allowance, 4095, 1024);
+    run_on(term, budget, allowance, 4096, 1023);
+    run_on(term, budget, allowance, 4095, 1023);
+    run_on(term, budget, allowance, 0, 0);
 }
 
-// A run where a slice is one word short, or empty.
-fn run_short(term: &[u16], budget: u32, allowance: u32, work: &mut [u16], result: &mut [u16]) {
-    run_on(term, budget, allowance, work, 4095, result, 1024);
-    run_on(term, budget, allowance, work, 4096, result, 1023);
-    run_on(term, budget, allowance, work, 4095, result, 1023);
-    run_on(term, budget, allowance, work, 0, result, 0);
+fn run_budgets(term: &[u16]) {
+    run_all(term, 0, 7);
+    run_all(term, 1, 7);
+    run_all(term, 3, 2);
+    run_all(term, 1000, 4294967295);
+    run_all(term, 5, 0);
 }
 
-fn run_budgets(term: &[u16], work: &mut [u16], result: &mut [u16]) {
-    run_all(term, 0, 7, work, result);
-    run_all(term, 1, 7, work, result);
-    run_all(term, 3, 2, work, result);
-    run_all(term, 1000, 4294967295, work, result);
-    run_all(term, 5, 0, work, result);
+fn all(term: &[u16]) {
+    check_limits(term);
+    run_budgets(term);
 }
 
-// Checks at limits that are and that are not allowed, and runs.
-fn all(term: &[u16], work: &mut [u16], result: &mut [u16]) {
-    let limits = [0, 1, 4, 5, 64, 1023, 1024, 1025, 4294967295];
-    check_limits(term, &limits, work, result);
-    run_budgets(term, work, result);
-}
-
-// Star, a down cast on an up cast, and a term that is stuck.
-fn ending_terms(work: &mut [u16], result: &mut [u16]) {
-    all(&[0], work, result);
-    all(&[1, 3, 2, 4, 0, 16, 0, 0], work, result);
-    all(&[2, 0, 0], work, result);
-}
-
-// The identity, a term that runs on, and one that grows.
-fn binding_terms(work: &mut [u16], result: &mut [u16]) {
-    all(&[4, 0, 4, 16, 16], work, result);
-    all(&[6, 0, 16], work, result);
-    all(&[6, 0, 2, 16, 16], work, result);
-}
-
-// A list that ends too early, a word with no meaning, and no words.
-fn no_terms(work: &mut [u16], result: &mut [u16]) {
-    all(&[2, 0], work, result);
-    all(&[7], work, result);
-    all(&[], work, result);
-}
-
-fn all_words(work: &mut [u16], result: &mut [u16]) {
-    ending_terms(work, result);
-    binding_terms(work, result);
-    no_terms(work, result);
-}
-
+// Star, a down cast on an up cast, a term that is stuck, the identity, one that runs on, one that grows; and words that are no
+// term: a list that ends too early, a word with no meaning, no words.
 fn main() {
-    let mut work = [0u16; 524291];
-    let mut result = [0u16; 1027];
-    all_words(&mut work, &mut result);
+    all(&[0]);
+    all(&[1, 3, 2, 4, 0, 16, 0, 0]);
+    all(&[2, 0, 0]);
+    all(&[4, 0, 4, 16, 16]);
+    all(&[6, 0, 16]);
+    all(&[6, 0, 2, 16, 16]);
+    all(&[2, 0]);
+    all(&[7]);
+    all(&[]);
 }

@@ -1,5 +1,5 @@
--- Two appends in a row are one of both texts. Where the first fits, the second begins where its stores end. Where it does not, its
--- answer is past the end or at it, and the second stores nothing, wherever it begins.
+-- Two appends in a row are one of both texts. Where the first fits, the second begins where its stores end. Where it does not,
+-- the answer is at the end or past it, and the second stores nothing, wherever it begins.
 use Prim.Native.Nat.{ℕ, suc, _+_, _-_, _≤_, _<_, min}
 use mathlib.Core.List.{List, [], _∷_, _++_}
 use mathlib.Core.Logic.{⊎-elim}
@@ -25,6 +25,7 @@ none out at = appends (omega arith) refl
 pub length-appended : {bs out after : List ℕ} {at r : ℕ} → Appends bs out at r after → length after ≡ length out
 length-appended {bs} {out} {after} {at} (appends place stored) = ap length stored ∙ length-sets out at bs
 
+-- Stores from the answered place on are stores behind all of the bytes.
 onwards : (bs cs out : List ℕ) (at : ℕ) → sets (sets out at bs) (behind bs out at) cs ≡ sets (sets out at bs) (at + length bs) cs
 unfolding behind
 onwards bs cs out at =

@@ -1,5 +1,5 @@
--- The fewest digits that hold a number are its decimal text: one digit holds a number below 10, and of any other number the digits
--- before the last are the fewest that hold its tenth part.
+-- The fewest digits that hold a number are its decimal text: one digit holds a number below 10, and of any other number the
+-- digits before the last are the fewest that hold its tenth part.
 use Prim.Native.Nat.{ℕ, zero, suc, _-_, _*_, _/_, _^_, _≤_, _<_}
 use mathlib.Core.Path.{_≡_}
 use native.Mathlib.Nat.{pow-suc, one-le-pow}

@@ -19,13 +19,13 @@ pub fn front(words: &[u16], count: usize) -> &[u16]
 }
 
 // The first `count` bytes, or all where there are fewer.
-pub fn filled(out: &[u8], count: usize) -> &[u8]
-    ensures { λ r. ⌜ now r ≡ take count (now (out .entry)) ⌝ }
+pub fn filled(buffer: &[u8], count: usize) -> &[u8]
+    ensures { λ r. ⌜ now r ≡ take count (now (buffer .entry)) ⌝ }
 {
-    if count <= out.len() {
-        &out[..count]
+    if count <= buffer.len() {
+        &buffer[..count]
     } else {
-        out
+        buffer
     }
 }
 
@@ -59,7 +59,7 @@ pub fn bytes(text: &[u8], out: &mut [u8], at: usize) -> usize
 }
 
 // Appends a number in decimal.
-pub fn decimal(value: u64, out: &mut [u8], at: usize) -> usize
+fn decimal(value: u64, out: &mut [u8], at: usize) -> usize
     ensures { λ r. ⌜ Appends (decimal value) (now (out .entry)) at r (now (out .exit)) ⌝ }
 {
     let mut digits = [0u8; 20];

@@ -15,8 +15,9 @@ abbrev μ-loop : tie.MeasureT-loop
 
 loop-again : tie.Need-loop-again Inv-loop μ-loop
 loop-again c =
-    let kept = c .before .before .before .before .before .before .take-chunk .kept .1 .1 in
-    let read = c .before .before .before .before .before .before .before .before .before .before .before .before .before .before .before .before .before in
+    let chunk = c .before .before .before .before .before .before in
+    let kept = chunk .take-chunk .kept .1 .1 in
+    let read = chunk .before .before .before .before .before .before .before .before .before .before .before in
     omega (arith, kept .0, kept .1 .0, kept .1 .1 .0, read .read .kept .1 .0, read .before .before .before .loop)
 
 pub serve-spec : {M : Type 1} → statement M

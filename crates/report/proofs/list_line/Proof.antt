@@ -11,4 +11,5 @@ returns c =
     both (both (first .bytes .ensures) (second .list .ensures)) (c .before .before .byte .ensures)
 
 pub list-line-spec : {M : Type 1} → statement M
-list-line-spec = tie.close (tie.spec (λ c κs. search needs) (λ c κs. search needs) (λ c κs. search needs) (λ c. search needs) returns)
+list-line-spec =
+    tie.close (tie.spec (λ c κs. search needs) (λ c κs. search needs) (λ c κs. search needs) (λ c. search needs) returns)

@@ -1,6 +1,6 @@
--- `slices::kept_from` is safe and ends. The loop's invariant: the count is within the words. It is the measure too. Assumes nothing.
-use borrow.Author.Needs.{needs}
+-- `kept_from` is safe and ends. The loop's invariant: the count is within the words. It is the measure too.
 use Prim.Native.Nat.{_≤_}
+use borrow.Author.Needs.{needs}
 use lib.ListN.{length}
 use Rattle.slices.proofs.kept_from.Statement.{statement}
 use Rattle.slices.proofs.kept_from.Tie as tie
@@ -11,53 +11,9 @@ Inv-loop words n₀ n = n ≤ length words
 abbrev μ-loop : tie.MeasureT-loop
 μ-loop words n₀ n = n
 
-loop-holds : tie.Need-loop-holds Inv-loop μ-loop
-loop-holds c = search needs
-
-sub-if1 : tie.Need-sub-if1 Inv-loop μ-loop
-sub-if1 c = search needs
-
-mul-if1 : tie.Need-mul-if1 Inv-loop μ-loop
-mul-if1 c = search needs
-
-shared-slice-read-if1 : tie.Need-shared-slice-read-if1 Inv-loop μ-loop
-shared-slice-read-if1 c = search needs
-
-sub-garbage : tie.Need-sub-garbage Inv-loop μ-loop
-sub-garbage c = search needs
-
-garbage-requires : tie.Need-garbage-requires Inv-loop μ-loop
-garbage-requires c κs = search needs
-
-returns : tie.Need-returns Inv-loop μ-loop
-returns c = search needs
-
-sub-n : tie.Need-sub-n Inv-loop μ-loop
-sub-n c = search needs
-
-loop-less : tie.Need-loop-less Inv-loop μ-loop
-loop-less c = search needs
-
-loop-again : tie.Need-loop-again Inv-loop μ-loop
-loop-again c = search needs
-
-returns-2 : tie.Need-returns-2 Inv-loop μ-loop
-returns-2 c = search needs
-
 pub kept-from-spec : {M : Type 1} → statement M
 kept-from-spec =
     tie.close
     (tie.spec
-    Inv-loop
-    μ-loop
-    loop-holds
-    sub-if1
-    mul-if1
-    shared-slice-read-if1
-    sub-garbage
-    garbage-requires
-    returns
-    sub-n
-    loop-less
-    loop-again
-    returns-2)
+    Inv-loop μ-loop (λ c. search needs) (λ c. search needs) (λ c. search needs) (λ c. search needs) (λ c. search needs)
+    (λ c κs. search needs) (λ c. search needs) (λ c. search needs) (λ c. search needs) (λ c. search needs) (λ c. search needs))

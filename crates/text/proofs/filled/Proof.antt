@@ -1,21 +1,17 @@
--- `text::filled` meets its contract: the part that it lends is as long as it was asked to be, and a count beyond the end takes all.
--- Assumes nothing.
+-- `filled` meets its contract: the part that it lends is as long as it was asked to be, and a count beyond the end takes all.
+use mathlib.Core.Path.{sym}
 use borrow.Author.Needs.{needs}
 use native.Mathlib.Omega.{arith}
-use mathlib.Core.Path.{sym}
 use lib.ListN.{length-take}
 use lib.Seq.{take-all}
 use Rattle.text.proofs.filled.Statement.{statement}
 use Rattle.text.proofs.filled.Tie as tie
 
-slice-aggregate-result : tie.Need-slice-aggregate-result
-slice-aggregate-result c = simp length-take (omega arith)
-
-returns : tie.Need-returns
-returns c = search needs
+part-length : tie.Need-slice-aggregate-result
+part-length c = simp length-take (omega arith)
 
 returns-2 : tie.Need-returns-2
-returns-2 c = let a = c .before .args in sym (take-all (a .count) (a .out .now) (omega arith))
+returns-2 c = let a = c .before .args in sym (take-all (a .count) (a .buffer .now) (omega arith))
 
 pub filled-spec : {M : Type 1} → statement M
-filled-spec = tie.close (tie.spec slice-aggregate-result returns returns-2)
+filled-spec = tie.close (tie.spec part-length (λ c. search needs) returns-2)

@@ -16,7 +16,8 @@ returns-2 c =
     let first = c .before .before .before .before .before .before .before in
     let wide = first .before .before in
     let words = wide .before .before .before .before .before .args .words .now in
-    rw (list-first words (omega arith)) (both (rw (wide .wide .ensures) at (first .decimal .ensures)) (c .before .before .spaced .ensures))
+    rw (list-first words (omega arith))
+    (both (rw (wide .wide .ensures) at (first .decimal .ensures)) (c .before .before .spaced .ensures))
 
 pub list-spec : {M : Type 1} → statement M
 list-spec =

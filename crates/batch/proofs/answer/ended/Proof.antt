@@ -10,11 +10,12 @@ unfolding ascii
 returns c =
     let bar = c .before .before in
     let numbers = bar .before .before .before .before .before in
-    both (both (numbers .before .before .before .before .before .bytes .ensures) (numbers .numbers .ensures)) (bar .bytes2 .ensures)
+    let named = numbers .before .before .before .before .before in
+    both (both (named .bytes .ensures) (numbers .numbers .ensures)) (bar .bytes2 .ensures)
 
 pub ended-spec : {M : Type 1} → statement M
 ended-spec =
     tie.close
     (tie.spec
-    (λ c. search needs) (λ c κs. search needs) (λ c. search needs) (λ c κs. search needs) (λ c. search needs) (λ c κs. search needs)
-    (λ c. search needs) returns)
+    (λ c. search needs) (λ c κs. search needs) (λ c. search needs) (λ c κs. search needs) (λ c. search needs)
+    (λ c κs. search needs) (λ c. search needs) returns)

@@ -9,7 +9,8 @@ returns : tie.Need-returns
 unfolding ascii
 returns c =
     let numbers = c .before .before in
-    both (numbers .before .before .before .before .before .bytes .ensures) (numbers .numbers .ensures)
+    let named = numbers .before .before .before .before .before in
+    both (named .bytes .ensures) (numbers .numbers .ensures)
 
 pub refusal-spec : {M : Type 1} → statement M
 refusal-spec =
