@@ -22,7 +22,7 @@ use Rattle.term.specs.Walk.{span}
 use Rattle.term.proofs.Walking.{span-emit}
 use Rattle.typing.specs.Inference.{Subject}
 use Rattle.typing.proofs.Nodes.{of-app}
-use Rattle.typing.proofs.Subjects.{behind, begun-words, between as part-words, first, second, kept, place-first, place-second}
+use Rattle.typing.proofs.Subjects.{behind, begun-words, part-words, first, second, kept, place-first, place-second}
 use Rattle.typing.proofs.Rooms.{subject-shallow}
 use Rattle.typing.proofs.Types.{type-scoped, type-fits}
 use Rattle.typing.proofs.Passing.{Part}

@@ -14,7 +14,7 @@ use Rattle.calculus.specs.Infer.{infer}
 use Rattle.calculus.proofs.Coding.{size-positive}
 use Rattle.typing.specs.Inference.{Subject, star-typed}
 use Rattle.typing.proofs.Nodes.{Two, two-size}
-use Rattle.typing.proofs.Subjects.{behind, subject-long, subject-parts, first, second, under, kept, still, place-first, place-second, between}
+use Rattle.typing.proofs.Subjects.{behind, subject-long, subject-parts, first, second, under, kept, still, place-first, place-second, part-words}
 use Rattle.typing.proofs.Passing.{Part, starred}
 use Rattle.typing.proofs.Types.{type-typed, type-fits}
 
@@ -48,7 +48,7 @@ module _ {Γ : Context} {e a : Term} {term sub places : List ℕ} {depth : ℕ} 
   second-place h = place-second S h (1 + n) behind-annotation
 
   pub annotation-words : {k : ℕ} {b : Term} → Two k e a b → take (1 + n - 1) (drop 1 sub) ≡ words a
-  annotation-words h = between sub 1 (1 + n - 1) (first S h) (omega (arith, A .read))
+  annotation-words h = part-words sub 1 (1 + n - 1) (first S h) (omega (arith, A .read))
 
   -- The words reach beyond the first part.
   pub reaches : {k : ℕ} {b : Term} → Two k e a b → (1 + n < length sub) × (length sub ≤ longest)

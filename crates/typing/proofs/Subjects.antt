@@ -189,11 +189,11 @@ module _ {Γ : Context} {e a b : Term} {term sub places : List ℕ} {depth : ℕ
           (take-set-le depth places depth place (le-refl depth)) (S .placed)
 
 -- A part's own words.
-pub between : {Γ : Context} {e : Term} {term places : List ℕ} {depth : ℕ} (sub : List ℕ) (from n : ℕ)
+pub part-words : {Γ : Context} {e : Term} {term places : List ℕ} {depth : ℕ} (sub : List ℕ) (from n : ℕ)
     → Subject Γ e term (behind from sub) places depth
     → n ≡ size e
     → take n (drop from sub) ≡ words e
-between {e} sub from n S x = begun-words e n (S .rest) (sym (behind-drop from sub) ∙ S .begins) x
+part-words {e} sub from n S x = begun-words e n (S .rest) (sym (behind-drop from sub) ∙ S .begins) x
 
 -- A subject by another name.
 pub renamed : {Γ : Context} {e e′ : Term} {term sub places : List ℕ} {depth : ℕ}

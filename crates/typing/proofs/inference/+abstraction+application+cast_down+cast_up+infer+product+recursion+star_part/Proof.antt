@@ -11,7 +11,7 @@ mod Infer
 mod Product
 mod Recursion
 mod StarPart
-use Rattle.typing.proofs.inference.+abstraction+application+cast_down+cast_up+infer+product+recursion+star_part.Proof.Measures.{μ-abstraction, μ-application, μ-cast-down, μ-cast-up, μ-infer, μ-product, μ-recursion, μ-star-part}
+use Rattle.typing.proofs.inference.+abstraction+application+cast_down+cast_up+infer+product+recursion+star_part.Proof.Measures.{μ-node, μ-infer, μ-star-part}
 use Rattle.typing.proofs.inference.+abstraction+application+cast_down+cast_up+infer+product+recursion+star_part.Proof.Abstraction.{abstraction-part}
 use Rattle.typing.proofs.inference.+abstraction+application+cast_down+cast_up+infer+product+recursion+star_part.Proof.Application.{application-part}
 use Rattle.typing.proofs.inference.+abstraction+application+cast_down+cast_up+infer+product+recursion+star_part.Proof.CastDown.{cast-down-part}
@@ -26,5 +26,5 @@ use Rattle.typing.proofs.inference.+abstraction+application+cast_down+c
 pub +abstraction+application+cast-down+cast-up+infer+product+recursion+star-part-spec : {M : Type 1} → statement M
 +abstraction+application+cast-down+cast-up+infer+product+recursion+star-part-spec {M} =
     close
-    μ-abstraction μ-application μ-cast-down μ-cast-up μ-infer μ-product μ-recursion μ-star-part (abstraction-part M)
-    (application-part M) (cast-down-part M) (cast-up-part M) (infer-part M) (product-part M) (recursion-part M) (star-part-part M)
+    μ-node μ-node μ-node μ-node μ-infer μ-node μ-node μ-star-part (abstraction-part M) (application-part M) (cast-down-part M)
+    (cast-up-part M) (infer-part M) (product-part M) (recursion-part M) (star-part-part M)

@@ -6,7 +6,6 @@ use mathlib.Core.List.{List}
 use mathlib.Core.Path.{_≡_}
 use native.Mathlib.Omega.{arith}
 use lib.ListN.{length}
-use borrow.Fn.Kind.{PK}
 use borrow.Fn.Kinds.{In}
 use borrow.Fn.PlainCycle.{Measures, is, falls, and}
 use Rattle.calculus.specs.Term.{Term}
@@ -16,28 +15,21 @@ use Rattle.typing.specs.Inference.{Subject, Roomy}
 use Rattle.typing.proofs.Subjects.{behind, behind-length, subject-some}
 use Rattle.typing.proofs.Rooms.{roomy-part}
 use Rattle.typing.proofs.inference.abstraction.Reads as abstraction
-use Rattle.typing.proofs.inference.abstraction.Kinds as abstraction-kinds
 use Rattle.typing.proofs.inference.+abstraction+application+cast_down+cast_up+infer+product+recursion+star_part.Lts-abstraction as abstraction-lts
 use Rattle.typing.proofs.inference.application.Reads as application
-use Rattle.typing.proofs.inference.application.Kinds as application-kinds
 use Rattle.typing.proofs.inference.+abstraction+application+cast_down+cast_up+infer+product+recursion+star_part.Lts-application as application-lts
 use Rattle.typing.proofs.inference.cast_down.Reads as cast-down
-use Rattle.typing.proofs.inference.cast_down.Kinds as cast-down-kinds
 use Rattle.typing.proofs.inference.+abstraction+application+cast_down+cast_up+infer+product+recursion+star_part.Lts-cast_down as cast-down-lts
 use Rattle.typing.proofs.inference.cast_up.Reads as cast-up
-use Rattle.typing.proofs.inference.cast_up.Kinds as cast-up-kinds
 use Rattle.typing.proofs.inference.+abstraction+application+cast_down+cast_up+infer+product+recursion+star_part.Lts-cast_up as cast-up-lts
 use Rattle.typing.proofs.inference.infer.Reads as infer
-use Rattle.typing.proofs.inference.infer.Kinds as infer-kinds
+use Rattle.typing.proofs.inference.infer.Kinds as kinds
 use Rattle.typing.proofs.inference.+abstraction+application+cast_down+cast_up+infer+product+recursion+star_part.Lts-infer as infer-lts
 use Rattle.typing.proofs.inference.product.Reads as product
-use Rattle.typing.proofs.inference.product.Kinds as product-kinds
 use Rattle.typing.proofs.inference.+abstraction+application+cast_down+cast_up+infer+product+recursion+star_part.Lts-product as product-lts
 use Rattle.typing.proofs.inference.recursion.Reads as recursion
-use Rattle.typing.proofs.inference.recursion.Kinds as recursion-kinds
 use Rattle.typing.proofs.inference.+abstraction+application+cast_down+cast_up+infer+product+recursion+star_part.Lts-recursion as recursion-lts
 use Rattle.typing.proofs.inference.star_part.Reads as star-part
-use Rattle.typing.proofs.inference.star_part.Kinds as star-part-kinds
 use Rattle.typing.proofs.inference.+abstraction+application+cast_down+cast_up+infer+product+recursion+star_part.Lts-star_part as star-part-lts
 use Rattle.reduction.proofs.copying.copy.Reads as copy-reads
 use Rattle.reduction.proofs.rewriting.raise.Reads as raise-reads
@@ -52,85 +44,56 @@ use Rattle.typing.proofs.moving.put_in.Reads as put-in-reads
 use Rattle.typing.proofs.moving.step_into.Reads as step-into-reads
 use Rattle.typing.proofs.moving.step_type.Reads as step-type-reads
 
-abbrev pub μ-abstraction : Measures 4 abstraction-kinds.ps ℕ
-μ-abstraction κs a = 3 * length (a .1 .0 .now)
+abbrev pub μ-node : Measures 4 kinds.ps ℕ
+μ-node κs a = 3 * length (a .1 .0 .now)
 
-abbrev pub μ-application : Measures 4 application-kinds.ps ℕ
-μ-application κs a = 3 * length (a .1 .0 .now)
-
-abbrev pub μ-cast-down : Measures 4 cast-down-kinds.ps ℕ
-μ-cast-down κs a = 3 * length (a .1 .0 .now)
-
-abbrev pub μ-cast-up : Measures 4 cast-up-kinds.ps ℕ
-μ-cast-up κs a = 3 * length (a .1 .0 .now)
-
-abbrev pub μ-infer : Measures 4 infer-kinds.ps ℕ
+abbrev pub μ-infer : Measures 4 kinds.ps ℕ
 μ-infer κs a = 3 * length (a .1 .0 .now) + 1
 
-abbrev pub μ-product : Measures 4 product-kinds.ps ℕ
-μ-product κs a = 3 * length (a .1 .0 .now)
-
-abbrev pub μ-recursion : Measures 4 recursion-kinds.ps ℕ
-μ-recursion κs a = 3 * length (a .1 .0 .now)
-
-abbrev pub μ-star-part : Measures 4 star-part-kinds.ps ℕ
+abbrev pub μ-star-part : Measures 4 kinds.ps ℕ
 μ-star-part κs a = 3 * length (a .1 .0 .now) + 2
 
--- What is required of a member at the measure `t`, as it is proved, and below `t`, as it is called.
-abbrev pub at-measure : (ps : List (PK 4)) → Measures 4 ps ℕ → In 4 ps → ℕ → In 4 ps
-at-measure ps μ pre t = and 4 ps (is 4 ps μ t) pre
+-- What is required of a member at the measure `t`, as it is proved, and below `t`, as it is called. All have the same parameters.
+abbrev pub at-measure : Measures 4 kinds.ps ℕ → In 4 kinds.ps → ℕ → In 4 kinds.ps
+at-measure μ pre t = and 4 kinds.ps (is 4 kinds.ps μ t) pre
 
-abbrev pub below-measure : (ps : List (PK 4)) → Measures 4 ps ℕ → In 4 ps → ℕ → In 4 ps
-below-measure ps μ pre t = and 4 ps (falls 4 ps _<_ μ t) pre
+abbrev pub below-measure : Measures 4 kinds.ps ℕ → In 4 kinds.ps → ℕ → In 4 kinds.ps
+below-measure μ pre t = and 4 kinds.ps (falls 4 kinds.ps _<_ μ t) pre
 
-abbrev pub abstraction-at : ℕ → In 4 abstraction-kinds.ps
-abstraction-at = at-measure abstraction-kinds.ps μ-abstraction abstraction.Pre
+abbrev pub abstraction-at : ℕ → In 4 kinds.ps
+abstraction-at = at-measure μ-node abstraction.Pre
 
-abbrev pub abstraction-below : ℕ → In 4 abstraction-kinds.ps
-abstraction-below = below-measure abstraction-kinds.ps μ-abstraction abstraction.Pre
+abbrev pub application-at : ℕ → In 4 kinds.ps
+application-at = at-measure μ-node application.Pre
 
-abbrev pub application-at : ℕ → In 4 application-kinds.ps
-application-at = at-measure application-kinds.ps μ-application application.Pre
+abbrev pub cast-down-at : ℕ → In 4 kinds.ps
+cast-down-at = at-measure μ-node cast-down.Pre
 
-abbrev pub application-below : ℕ → In 4 application-kinds.ps
-application-below = below-measure application-kinds.ps μ-application application.Pre
+abbrev pub cast-up-at : ℕ → In 4 kinds.ps
+cast-up-at = at-measure μ-node cast-up.Pre
 
-abbrev pub cast-down-at : ℕ → In 4 cast-down-kinds.ps
-cast-down-at = at-measure cast-down-kinds.ps μ-cast-down cast-down.Pre
+abbrev pub infer-at : ℕ → In 4 kinds.ps
+infer-at = at-measure μ-infer infer.Pre
 
-abbrev pub cast-down-below : ℕ → In 4 cast-down-kinds.ps
-cast-down-below = below-measure cast-down-kinds.ps μ-cast-down cast-down.Pre
+abbrev pub product-at : ℕ → In 4 kinds.ps
+product-at = at-measure μ-node product.Pre
 
-abbrev pub cast-up-at : ℕ → In 4 cast-up-kinds.ps
-cast-up-at = at-measure cast-up-kinds.ps μ-cast-up cast-up.Pre
+abbrev pub recursion-at : ℕ → In 4 kinds.ps
+recursion-at = at-measure μ-node recursion.Pre
 
-abbrev pub cast-up-below : ℕ → In 4 cast-up-kinds.ps
-cast-up-below = below-measure cast-up-kinds.ps μ-cast-up cast-up.Pre
+abbrev pub star-part-at : ℕ → In 4 kinds.ps
+star-part-at = at-measure μ-star-part star-part.Pre
 
-abbrev pub infer-at : ℕ → In 4 infer-kinds.ps
-infer-at = at-measure infer-kinds.ps μ-infer infer.Pre
+abbrev pub node-below : In 4 kinds.ps → ℕ → In 4 kinds.ps
+node-below = below-measure μ-node
 
-abbrev pub infer-below : ℕ → In 4 infer-kinds.ps
-infer-below = below-measure infer-kinds.ps μ-infer infer.Pre
+abbrev pub infer-below : ℕ → In 4 kinds.ps
+infer-below = below-measure μ-infer infer.Pre
 
-abbrev pub product-at : ℕ → In 4 product-kinds.ps
-product-at = at-measure product-kinds.ps μ-product product.Pre
+abbrev pub star-part-below : ℕ → In 4 kinds.ps
+star-part-below = below-measure μ-star-part star-part.Pre
 
-abbrev pub product-below : ℕ → In 4 product-kinds.ps
-product-below = below-measure product-kinds.ps μ-product product.Pre
-
-abbrev pub recursion-at : ℕ → In 4 recursion-kinds.ps
-recursion-at = at-measure recursion-kinds.ps μ-recursion recursion.Pre
-
-abbrev pub recursion-below : ℕ → In 4 recursion-kinds.ps
-recursion-below = below-measure recursion-kinds.ps μ-recursion recursion.Pre
-
-abbrev pub star-part-at : ℕ → In 4 star-part-kinds.ps
-star-part-at = at-measure star-part-kinds.ps μ-star-part star-part.Pre
-
-abbrev pub star-part-below : ℕ → In 4 star-part-kinds.ps
-star-part-below = below-measure star-part-kinds.ps μ-star-part star-part.Pre
-
+-- What each member's callees require and answer.
 abbrev pub abstraction-claims : ℕ → abstraction-lts.Claims
 abstraction-claims t = (star-part-below t, star-part.Post, narrow-reads.Asked, narrow-reads.Learnt, infer-below t, infer.Post, refused-reads.Asked, refused-reads.Learnt, copy-reads.Asked, copy-reads.Learnt)
 
@@ -144,7 +107,7 @@ abbrev pub cast-up-claims : ℕ → cast-up-lts.Claims
 cast-up-claims t = (star-part-below t, star-part.Post, infer-below t, infer.Post, step-into-reads.Asked, step-into-reads.Learnt, refused-reads.Asked, refused-reads.Learnt, same-reads.Asked, same-reads.Learnt, copy-reads.Asked, copy-reads.Learnt)
 
 abbrev pub infer-claims : ℕ → infer-lts.Claims
-infer-claims t = (classify-reads.Asked, classify-reads.Learnt, wide-reads.Asked, wide-reads.Learnt, variable-reads.Asked, variable-reads.Learnt, application-below t, application.Post, abstraction-below t, abstraction.Post, product-below t, product.Post, cast-up-below t, cast-up.Post, cast-down-below t, cast-down.Post, recursion-below t, recursion.Post, refused-reads.Asked, refused-reads.Learnt)
+infer-claims t = (classify-reads.Asked, classify-reads.Learnt, wide-reads.Asked, wide-reads.Learnt, variable-reads.Asked, variable-reads.Learnt, node-below application.Pre t, application.Post, node-below abstraction.Pre t, abstraction.Post, node-below product.Pre t, product.Post, node-below cast-up.Pre t, cast-up.Post, node-below cast-down.Pre t, cast-down.Post, node-below recursion.Pre t, recursion.Post, refused-reads.Asked, refused-reads.Learnt)
 
 abbrev pub product-claims : ℕ → product-lts.Claims
 product-claims t = (star-part-below t, star-part.Post, narrow-reads.Asked, narrow-reads.Learnt)
