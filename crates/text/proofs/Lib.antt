@@ -2,3 +2,4 @@
 pub mod Appended
 pub mod Decimals
 pub mod Lists
+pub mod Edges
