@@ -17,7 +17,7 @@ use Rattle.term.proofs.Walking.{span-words}
 use Rattle.reduction.specs.declared.rewriting.Change.the-variants.{Put}
 use Rattle.reduction.specs.declared.stepping.Stepped.{Stepped}
 use Rattle.reduction.specs.Rewriting.{Bounded, Plain, instantiated}
-use Rattle.reduction.specs.Stepping.{Arrives, Codes, Steps}
+use Rattle.reduction.specs.Stepping.{Arrives, Codes, Replaceable, Steps, replaced}
 use Rattle.reduction.proofs.Plain.{plain-words}
 use Rattle.reduction.proofs.Rewritten.{instantiated-words, closed-raised}
 use Rattle.reduction.proofs.Spans.{Spanned}
@@ -53,25 +53,20 @@ module _ {ws k : List ℕ} {at i j m end : ℕ} {s e u : Term}
       → Codes ws closed
       → ((n : ℕ) → Scoped n s → Scoped (suc n) e)
       → ((n : ℕ) → Scoped n s → Scoped n u)
-      → (at ≤ length ws)
-      × (end ≤ length ws)
-      × (span (take (j - i) (drop i ws)) 1 ≡ length (take (j - i) (drop i ws)))
-      × (length (take (j - i) (drop i ws)) ≤ 2048)
-      × Plain (take (j - i) (drop i ws))
-      × Bounded (Put closed) (take (end - m) (drop m ws))
+      → Replaceable ws at end (take (j - i) (drop i ws)) (take (end - m) (drop m ws)) closed
   replaceable {closed} c in-body in-argument =
       let scoped : Scoped deepest s = p .scoped (c .term) (c .coded) deepest (c .scoped) in
       let shut : closed ≡ true → Scoped 0 u = λ is-closed. in-argument 0 (p .scoped (c .term) (c .coded) 0 (c .shut is-closed)) in
       let (walked, short-body, plain) = part-fits c b (suc deepest) (le-refl _) (in-body deepest scoped) in
       (omega (arith, placed-within p), v .within, walked, short-body, plain, argument-fits c v (in-argument deepest scoped) shut)
 
-  pub replaced : {out after : List ℕ} {r : Stepped}
+  pub replaces : {out after : List ℕ} {r : Stepped}
       → step s ≡ next (substitute 0 u e)
-      → Arrives (take at ws ++ instantiated (take (end - m) (drop m ws)) (take (j - i) (drop i ws)) ++ drop end ws) out r after
+      → Arrives (replaced ws at end (take (j - i) (drop i ws)) (take (end - m) (drop m ws))) out r after
       → (t : Term)
       → ws ≡ words t
       → Steps (step t) out r after
-  replaced {out} {after} {r} h a =
+  replaces {out} {after} {r} h a =
       reaches p h same (subst (λ l. Arrives l out r after) (append-assoc (take at ws) new (drop end ws)) a)
     where
       new : List ℕ

@@ -1,15 +1,18 @@
 -- Where a term steps, and what a step answers and writes.
 use Prim.Native.Nat.{ℕ, suc, _≤_, _<_}
 use mathlib.Core.Bool.{Bool, true, cond, _&&_}
-use mathlib.Core.List.{List, [], _∷_}
+use mathlib.Core.List.{List, [], _∷_, _++_}
 use mathlib.Core.Path.{_≡_}
 use lib.Dec.{leb}
-use lib.ListN.{length}
+use lib.ListN.{length, take, drop}
 use lib.Seq.{sets}
 use Rattle.calculus.specs.Term.{Term, var, star, app, lam, pi, castup, castdown, mu, size}
 use Rattle.calculus.specs.Words.{words, Scoped, longest, deepest}
 use Rattle.calculus.specs.Step as calculus
+use Rattle.term.specs.Walk.{span}
 use Rattle.reduction.specs.Writing.{Written}
+use Rattle.reduction.specs.Rewriting.{Bounded, Plain, instantiated}
+use Rattle.reduction.specs.declared.rewriting.Change.the-variants as change
 use Rattle.reduction.specs.declared.stepping.Redex.{Redex}
 use Rattle.reduction.specs.declared.stepping.Redex.the-variants as redex
 use Rattle.reduction.specs.declared.stepping.Stepped.{Stepped}
@@ -83,6 +86,21 @@ pub record Arrives (e out : List ℕ) (r : Stepped) (after : List ℕ) : Type 0 
 -- The same from `at` on, where all before it is written.
 abbrev pub Finishes : List ℕ → List ℕ → ℕ → Stepped → List ℕ → Type 0
 Finishes e out at r after = Written stepped.To stepped.Full e out at r after
+
+-- What is asked where a redex at `at` gives way to its body with the argument put in: places within the state, a body that is one
+-- subterm, short and of small words, and what substitution asks of the argument.
+abbrev pub Replaceable : (state : List ℕ) (at end : ℕ) (body argument : List ℕ) → Bool → Type 0
+Replaceable state at end body argument closed =
+    (at ≤ length state)
+    × (end ≤ length state)
+    × (span body 1 ≡ length body)
+    × (length body ≤ 2048)
+    × Plain body
+    × Bounded (change.Put closed) argument
+
+-- The words then: those before the redex, the body with the argument put in, and those from `end` on.
+abbrev pub replaced : (state : List ℕ) (at end : ℕ) (body argument : List ℕ) → List ℕ
+replaced state at end body argument = take at state ++ instantiated argument body ++ drop end state
 
 -- What a step answers and writes, by what the calculus says.
 unfoldable pub Steps : calculus.Next → List ℕ → Stepped → List ℕ → Type 0

@@ -4,7 +4,6 @@ use crate::copying::copy;
 use crate::copying::put;
 use term::word::Meaning;
 use term::word::classify;
-ghost use mathlib.Core.Path.{_≡_};
 ghost use Prim.Native.Nat.{_≤_, _+_, _<_};
 ghost use mathlib.Core.List.{[], _∷_};
 ghost use lib.ListN.{length, drop};
@@ -57,7 +56,8 @@ fn rewrite_variable(
     at: usize,
 ) -> Room
     requires { ⌜ (at ≤ length (now out)) × (index < 2032) × (depth ≤ 2048) × Bounded change (now argument) ⌝ }
-    ensures { λ r. ⌜ Writes (changed-word change (now (argument .entry)) depth (16 + index)) (now (out .entry)) at r (now (out .exit)) ⌝ }
+    ensures { λ r. ⌜ Writes (changed-word change (now (argument .entry)) depth (16 + index))
+        (now (out .entry)) at r (now (out .exit)) ⌝ }
 {
     if index < depth {
         return put(16 + index, out, at);
@@ -87,8 +87,10 @@ fn rewrite(
     out: &mut [u16],
     from: usize,
 ) -> Progress
-    requires { ⌜ (from ≤ length (now out)) × (around + length (now source) ≤ 2048) × Plain (now source) × Bounded change (now argument) ⌝ }
-    ensures { λ r. ⌜ Rewrites (rewritten (changed-word change (now (argument .entry))) (now (source .entry)) (around ∷ [])) (span (now (source .entry)) 1) (now (out .entry)) from r (now (out .exit)) ⌝ }
+    requires { ⌜ (from ≤ length (now out)) × (around + length (now source) ≤ 2048)
+        × Plain (now source) × Bounded change (now argument) ⌝ }
+    ensures { λ r. ⌜ Rewrites (rewritten (changed-word change (now (argument .entry))) (now (source .entry)) (around ∷ []))
+        (span (now (source .entry)) 1) (now (out .entry)) from r (now (out .exit)) ⌝ }
 {
     let mut at = from;
     let mut read = 0;
@@ -153,7 +155,8 @@ fn rewrite_whole(
     at: usize,
 ) -> Room
     requires { ⌜ Asks (now source) (now out) at (Bounded change (now argument)) ⌝ }
-    ensures { λ r. ⌜ Writes (rewritten (changed-word change (now (argument .entry))) (now (source .entry)) (0 ∷ [])) (now (out .entry)) at r (now (out .exit)) ⌝ }
+    ensures { λ r. ⌜ Writes (rewritten (changed-word change (now (argument .entry))) (now (source .entry)) (0 ∷ []))
+        (now (out .entry)) at r (now (out .exit)) ⌝ }
 {
     let count = last_variable(source);
     match rewrite(&source[..count], 0, change, argument, out, at) {
@@ -179,7 +182,8 @@ pub fn substitute(
     at: usize,
 ) -> Room
     requires { ⌜ Asks (now source) (now out) at (Bounded (Change.Put closed) (now argument)) ⌝ }
-    ensures { λ r. ⌜ Writes (instantiated (now (argument .entry)) (now (source .entry))) (now (out .entry)) at r (now (out .exit)) ⌝ }
+    ensures { λ r. ⌜ Writes (instantiated (now (argument .entry)) (now (source .entry)))
+        (now (out .entry)) at r (now (out .exit)) ⌝ }
 {
     rewrite_whole(source, Change::Put(closed), argument, out, at)
 }

@@ -7,14 +7,11 @@ use term::word::Meaning;
 use term::word::classify;
 ghost use mathlib.Core.Path.{_≡_};
 ghost use Prim.Native.Nat.{_≤_, _+_};
-ghost use mathlib.Core.List.{_++_};
-ghost use lib.ListN.{length, take, drop};
+ghost use lib.ListN.{length, drop};
 ghost use Rattle.calculus.specs.Term.{Term};
 ghost use Rattle.calculus.specs.Words.{words};
 ghost use Rattle.term.specs.Walk.{span};
-ghost use Rattle.reduction.specs.Rewriting.{Bounded, Plain, instantiated};
-ghost use Rattle.reduction.specs.declared.rewriting.Change.the-variants.{Put};
-ghost use Rattle.reduction.specs.Stepping.{Arrives, Coded, Codes, Finishes, Located, Tells, heads, locate};
+ghost use Rattle.reduction.specs.Stepping.{Arrives, Coded, Codes, Finishes, Located, Replaceable, Tells, heads, locate, replaced};
 
 // Where a state steps and by which rule: the place of the application, of the down cast or of the recursion.
 enum Redex {
@@ -108,8 +105,9 @@ fn replace(
     end: usize,
     out: &mut [u16],
 ) -> Stepped
-    requires { ⌜ (at ≤ length (now state)) × (end ≤ length (now state)) × (span (now body) 1 ≡ length (now body)) × (length (now body) ≤ 2048) × Plain (now body) × Bounded (Put closed) (now argument) ⌝ }
-    ensures { λ r. ⌜ Arrives (take at (now (state .entry)) ++ instantiated (now (argument .entry)) (now (body .entry)) ++ drop end (now (state .entry))) (now (out .entry)) r (now (out .exit)) ⌝ }
+    requires { ⌜ Replaceable (now state) at end (now body) (now argument) closed ⌝ }
+    ensures { λ r. ⌜ Arrives (replaced (now (state .entry)) at end (now (body .entry)) (now (argument .entry)))
+        (now (out .entry)) r (now (out .exit)) ⌝ }
 {
     let Room::To(from) = copy(&state[..at], out, 0) else {
         return Stepped::Full;

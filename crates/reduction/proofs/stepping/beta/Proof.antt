@@ -10,7 +10,7 @@ use Rattle.calculus.specs.Words.{emit, Scoped}
 use Rattle.calculus.specs.Step.{applied, step, under}
 use Rattle.reduction.proofs.Spans.{further, last, Spanned, ended, walked}
 use Rattle.reduction.proofs.Placing.{Placed, placed-within, beta-placed}
-use Rattle.reduction.proofs.Replacing.{replaceable, replaced}
+use Rattle.reduction.proofs.Replacing.{replaceable, replaces}
 use Rattle.reduction.proofs.stepping.beta.Statement.{statement}
 use Rattle.reduction.proofs.stepping.beta.Tie as tie
 
@@ -93,7 +93,7 @@ replace-requires c κs =
 returns : tie.Need-returns
 unfolding step under applied
 returns c =
-    replaced
+    replaces
     (redex (c .before .before .before .before .before .before .before .before .before .before .before .before .before) .3)
     (body (c .before .before .before .before .before .before .before))
     (argument (c .before .before .before .before .before .before))

@@ -10,7 +10,7 @@ use Rattle.calculus.specs.Words.{emit, Scoped}
 use Rattle.calculus.specs.Step.{step}
 use Rattle.reduction.proofs.Spans.{further, last, Spanned, spanned, ended, walked}
 use Rattle.reduction.proofs.Placing.{Placed, placed-within, unfold-placed}
-use Rattle.reduction.proofs.Replacing.{replaceable, replaced}
+use Rattle.reduction.proofs.Replacing.{replaceable, replaces}
 use Rattle.reduction.proofs.stepping.unfold.Statement.{statement}
 use Rattle.reduction.proofs.stepping.unfold.Tie as tie
 
@@ -76,7 +76,7 @@ replace-requires c κs =
 returns : tie.Need-returns
 unfolding step
 returns c =
-    replaced
+    replaces
     (redex (c .before .before .before .before .before .before .before .before .before .before .before) .2)
     (body (c .before .before .before .before .before .before))
     (recursion (c .before .before .before .before .before .before))
