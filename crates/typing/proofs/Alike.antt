@@ -1,7 +1,7 @@
 -- Two runs of words of one list are the same over one word more if they are the same so far and at the next word; they are not the
 -- same over one word more if the next words differ.
 use Prim.Native.Nat.{ℕ, _+_, _<_}
-use mathlib.Core.Bool.{Bool, true, false}
+use mathlib.Core.Bool.{Bool, true, false, true≢false}
 use mathlib.Core.List.{List, [], _∷_, _++_}
 use mathlib.Core.Logic.{_↔_}
 use mathlib.Core.Path.{_≡_, refl, sym, ap, _∙_}
@@ -44,4 +44,4 @@ module _ (ws : List ℕ) (a b i : ℕ) where
       more p h = rw (add-one i) (take-suc (drop p ws) i 0 (omega (arith, length-drop p ws)) ∙ rw (getD-drop p ws i 0) refl)
 
   pub tells-differing : (getD ws (a + i) 0 ≡ getD ws (b + i) 0 → ⊥) → Tells ws a b (i + 1) false
-  tells-differing n = (λ h. absurd (let z : _≡_ {A = ℕ} 0 1 = cc in omega arith), λ h. absurd (n (same-at h)))
+  tells-differing n = (λ h. absurd (true≢false cc), λ h. absurd (n (same-at h)))

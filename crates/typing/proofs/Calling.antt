@@ -1,7 +1,7 @@
 -- Function and argument of an application, once both are typed: the function's type, a product, lies at `top`, and the argument's type
 -- behind it. So its domain and its codomain lie behind the first word.
 use Prim.Native.Nat.{ℕ, suc, _+_, _-_, _≤_}
-use mathlib.Core.Bool.{Bool, true, false, not}
+use mathlib.Core.Bool.{Bool, true, false, not, true≢false}
 use mathlib.Core.List.{List}
 use mathlib.Core.Logic.{_↔_, _≢_}
 use mathlib.Core.Path.{_≡_, refl, sym, ap, subst, _∙_}
@@ -156,7 +156,7 @@ module _ {L : ℕ} {Γ : Context} {p : ℕ} {f u : Term} {places : List ℕ} {de
           coded = codomain-words;
           short = omega (arith, C .long, C .fits);
           scoped = scoped-more (C .codomain) (omega (arith, S .around, subject-shallow S)) (C .scoped);
-          shut = λ z. let y : _≡_ {A = ℕ} 0 1 = cc in absurd (omega arith);
+          shut = λ z. absurd (true≢false cc);
         }
 
     -- The comparison of the argument's type with the domain.

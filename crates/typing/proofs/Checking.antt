@@ -2,6 +2,7 @@
 -- those of a closed term, which inference takes as a subject with no context. Whatever inference left in the working slice is cleared,
 -- and the type that it found is what the output then begins with.
 use Prim.Native.Nat.{ℕ, suc, _-_, _≤_}
+use mathlib.Core.Bool.{true≢false}
 use mathlib.Core.List.{List, [], _++_}
 use mathlib.Core.Path.{_≡_, refl, sym, ap, _∙_, subst}
 use native.Mathlib.Nat.{le-refl, mul-le-mul-right}
@@ -122,7 +123,7 @@ module _ {ws : List ℕ} {L : ℕ} {W O : List ℕ} {r : Inferred} {after : List
       turned : {x : Answer Term}
           → Infers x term places 0 (take (check-room L) W) 0 r after places′
           → x ≡ refused (reason-of (f .reason)) (f .place)
-      turned (finds g) = let z : _≡_ {A = ℕ} 0 1 = cc (g .answer, q) in absurd (omega arith)
+      turned (finds g) = absurd (true≢false (cc (g .answer, q)))
       turned (refuses g) = let same = sym g ∙ ap inferred-of q in cc
 
   module _ {n m : ℕ} (q : r ≡ inferred.Typed n m) where

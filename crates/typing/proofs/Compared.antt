@@ -26,10 +26,7 @@ module _ (ws : List ℕ) (first second count : ℕ) (σ τ : Term)
 
   other-term : not r ≡ true → σ ≢ τ
   other-term q e =
-      let t = h .1 (x ∙ ap words (sym e) ∙ sym y) in
-      let f = not-true r q in
-      let z : _≡_ {A = ℕ} 0 1 = cc in
-      omega arith
+      true≢false (sym (h .1 (x ∙ ap words (sym e) ∙ sym y)) ∙ not-true r q)
 
   pub compared : (not r ≡ true → σ ≢ τ) × (not r ≡ false → σ ≡ τ)
   compared = (other-term, same-term)

@@ -2,6 +2,7 @@
 -- each has its own answer: so where the code found no step there is none, where it did not fit the next state is over the limit,
 -- and otherwise the next state lies where it was to be written.
 use Prim.Native.Nat.{ℕ, suc, _≤_, _<_}
+use mathlib.Core.Bool.{true≢false}
 use mathlib.Core.List.{List}
 use mathlib.Core.Logic.{_⊎_, ⊎-elim}
 use mathlib.Core.Path.{_≡_, refl, ap, _∙_}
@@ -51,18 +52,18 @@ module _ (work : List ℕ) (top limit : ℕ) (r : Stepped) (after : List ℕ) wh
 
   pub moved : (n : Next) {k : ℕ} → Moves n work top limit r after → r ≡ To k → Moved n work top limit k after
   unfolding Moves
-  moved value m q = let z : _≡_ {A = ℕ} 0 1 = cc in absurd (omega arith)
-  moved stuck m q = let z : _≡_ {A = ℕ} 0 1 = cc in absurd (omega arith)
+  moved value m q = absurd (true≢false cc)
+  moved stuck m q = absurd (true≢false cc)
   moved (next x) m q =
       by-limit x m (λ h t s. record { state = x; steps = refl; fits = h; long = cc (q, t); stored = s })
-      (λ h f. let z : _≡_ {A = ℕ} 0 1 = cc in absurd (omega arith))
+      (λ h f. absurd (true≢false cc))
 
   pub over-limit : (n : Next) → Moves n work top limit r after → r ≡ Full → (x : Term) × (n ≡ next x) × (limit < size x)
   unfolding Moves
-  over-limit value m q = let z : _≡_ {A = ℕ} 0 1 = cc in absurd (omega arith)
-  over-limit stuck m q = let z : _≡_ {A = ℕ} 0 1 = cc in absurd (omega arith)
+  over-limit value m q = absurd (true≢false cc)
+  over-limit stuck m q = absurd (true≢false cc)
   over-limit (next x) m q =
-      by-limit x m (λ h t s. let z : _≡_ {A = ℕ} 0 1 = cc in absurd (omega arith)) (λ h f. (x, refl, h))
+      by-limit x m (λ h t s. absurd (true≢false cc)) (λ h f. (x, refl, h))
 
   pub rests : (p : ℕ) (n : Next)
       → Moves n work top limit r after

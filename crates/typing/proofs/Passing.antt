@@ -2,11 +2,10 @@
 -- refused: so a part's refusal is the answer of the whole, and a part that is typed has a type, which lies where the part was
 -- asked for. The whole refuses where the code does, by the same reason at the same place.
 use Prim.Native.Nat.{ℕ}
-use mathlib.Core.Bool.{Bool, true, false}
+use mathlib.Core.Bool.{Bool, true, false, true≢false}
 use mathlib.Core.List.{List}
 use mathlib.Core.Path.{_≡_, refl, ap, subst}
 use native.Mathlib.Decide.{ℕ-discrete}
-use native.Mathlib.Omega.{arith}
 use lib.ListN.{length, take, drop}
 use Rattle.calculus.specs.Term.{Term, Term-discrete, star, size}
 use Rattle.calculus.specs.Answer.{Answer, ok, refused, _>>=_, _>>_, require, not-star}
@@ -19,7 +18,7 @@ use Rattle.term.specs.declared.refusal.Reason.{Reason}
 use Rattle.term.specs.declared.refusal.Refusal.{Refusal}
 use Rattle.typing.specs.declared.inference.Inferred.{Inferred}
 use Rattle.typing.specs.declared.inference.Inferred.the-variants as inferred
-use Rattle.typing.specs.Inference.{Infers, finds, refuses, Found, inferred-of, star-typed}
+use Rattle.typing.specs.Inference.{Infers, finds, refuses, TypeFound, inferred-of, star-typed}
 
 -- A part `e` that is typed: the answer has its length and that of its type.
 pub record Part (x : Answer Term) (e : Term) (places : List ℕ) (depth : ℕ) (work : List ℕ) (top n m : ℕ) (after places′ : List ℕ) : Type 0 where
@@ -56,10 +55,10 @@ module _ {e : Term} {places : List ℕ} {depth : ℕ} {work : List ℕ} {top : �
         context = f .context;
         wide = f .wide;
       }
-  typed (refuses f) q = let g = rw q at f in let z : _≡_ {A = ℕ} 0 1 = cc in absurd (omega arith)
+  typed (refuses f) q = let g = rw q at f in absurd (true≢false cc)
 
   -- The whole finds a type.
-  pub found : {x : Answer Term} {τ : Term} → x ≡ ok τ → Found τ (size e) places depth work top r after places′
+  pub found : {x : Answer Term} {τ : Term} → x ≡ ok τ → TypeFound τ (size e) places depth work top r after places′
       → Infers x e places depth work top r after places′
   found g f = rw g (finds f)
 
@@ -77,7 +76,7 @@ module _ {e : Term} {places : List ℕ} {depth : ℕ} {work : List ℕ} {top : �
       → x ≡ (y >>= k)
       → Infers x e places depth work top r after places′
   unfolding _>>=_
-  passed k (finds f) q g = let z : _≡_ {A = ℕ} 0 1 = cc (f .answer, q) in absurd (omega arith)
+  passed k (finds f) q g = absurd (true≢false (cc (f .answer, q)))
   passed k (refuses f) q g = rw g (refuses f)
 
 -- A test that a type is star, and then `k`: the same test with star as its answer, and then `k`.
@@ -101,8 +100,8 @@ starred L Γ p e {σ} g = on (infer L Γ p e) g
         → (require not-star p (same τ star) >> ok star) ≡ ok σ
         → (_≡_ {A = Answer Term} (ok τ) (ok star)) × (σ ≡ star)
     tested τ (yes x) g = let g = rw (x, equal star) at g in (ap ok x, cc)
-    tested τ (no n) g = let g = rw (unequal n) at g in let z : _≡_ {A = ℕ} 0 1 = cc in absurd (omega arith)
+    tested τ (no n) g = let g = rw (unequal n) at g in absurd (true≢false cc)
 
     on : (y : Answer Term) → (y >>= λ σ. require not-star p (same σ star) >> ok star) ≡ ok σ → (y ≡ ok star) × (σ ≡ star)
     on (ok τ) g = tested τ (Term-discrete ℕ-discrete τ star) g
-    on (refused s q) g = let z : _≡_ {A = ℕ} 0 1 = cc in absurd (omega arith)
+    on (refused s q) g = absurd (true≢false cc)

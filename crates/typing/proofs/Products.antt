@@ -13,7 +13,7 @@ use Rattle.calculus.specs.Words.{emit, words}
 use Rattle.calculus.proofs.Coding.{emit-append, words-length}
 use Rattle.reduction.proofs.Stores.{take-sets}
 use Rattle.typing.specs.declared.inference.Inferred.the-variants as inferred
-use Rattle.typing.specs.Inference.{Found}
+use Rattle.typing.specs.Inference.{TypeFound}
 use Rattle.typing.proofs.Stored.{sets-between}
 
 -- What is stored before what lies behind it.
@@ -41,7 +41,7 @@ pub product-written : {places places′ work after : List ℕ} {depth top n m j 
     → take top before ≡ take top work
     → take depth places′ ≡ take depth places
     → length places′ ≡ length places
-    → Found (pi a b) k places depth work top (inferred.Typed j (1 + n + m)) after places′
+    → TypeFound (pi a b) k places depth work top (inferred.Typed j (1 + n + m)) after places′
 unfolding size
 product-written {work} {after} {top} {n} {m} before a b reads first second x room lies front context wide =
     let many = words-length a in

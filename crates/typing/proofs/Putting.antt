@@ -1,6 +1,7 @@
 -- What a write within the limit says. A term is within the limit or over it, and each has its own answer: so where it did not
 -- fit, the term is over the limit, and otherwise it lies where it was to be written.
 use Prim.Native.Nat.{ℕ, _+_, _≤_, _<_}
+use mathlib.Core.Bool.{true≢false}
 use mathlib.Core.List.{List}
 use mathlib.Core.Path.{_≡_}
 use native.Mathlib.Decide.{decLe}
@@ -28,7 +29,7 @@ module _ {x : Term} {work : List ℕ} {top limit : ℕ} {r : Room} {after : List
   pub put : {end : ℕ} → r ≡ room.To end → Put x work top limit end after
   put q =
       within-or-over x limit (λ h. record { fits = h; ends = cc (P .fits h .0, q); stored = P .fits h .1 })
-      (λ h. let z : _≡_ {A = ℕ} 0 1 = cc (P .full h, q) in absurd (omega arith))
+      (λ h. absurd (true≢false (cc (P .full h, q))))
 
   pub put-over : r ≡ room.Full → limit < size x
-  put-over q = within-or-over x limit (λ h. let z : _≡_ {A = ℕ} 0 1 = cc (P .fits h .0, q) in absurd (omega arith)) (λ h. h)
+  put-over q = within-or-over x limit (λ h. absurd (true≢false (cc (P .fits h .0, q)))) (λ h. h)

@@ -13,7 +13,7 @@ use Rattle.reduction.specs.declared.copying.Room.{Room}
 use Rattle.reduction.specs.Writing.{Writes}
 use Rattle.reduction.proofs.Stores.{take-sets}
 use Rattle.typing.specs.declared.inference.Inferred.the-variants as inferred
-use Rattle.typing.specs.Inference.{Found}
+use Rattle.typing.specs.Inference.{TypeFound}
 use Rattle.typing.proofs.Stored.{stored}
 
 part-of-front : (l : List ℕ) (at n : ℕ) → take n (drop at l) ≡ drop at (take (at + n) l)
@@ -46,7 +46,7 @@ pub written-type : {places places′ work after : List ℕ} {depth top n m k : �
     → take top before ≡ take top work
     → take depth places′ ≡ take depth places
     → length places′ ≡ length places
-    → Found τ k places depth work top (inferred.Typed n m) after places′
+    → TypeFound τ k places depth work top (inferred.Typed n m) after places′
 written-type {after} {top} before τ reads long x room front context wide =
     record {
       answer = cc;

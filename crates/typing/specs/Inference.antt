@@ -46,7 +46,7 @@ inferred-of (inferred.Typed n m) = ok m
 inferred-of (inferred.Refused r) = refused (reason-of (r .reason)) (r .place)
 
 -- The type τ of a subterm of `n` words lies at `top`; what lies before it, and the places of the context, are as they were.
-pub record Found (τ : Term) (n : ℕ) (places : List ℕ) (depth : ℕ) (work : List ℕ) (top : ℕ) (r : Inferred) (after places′ : List ℕ) : Type 0 where
+pub record TypeFound (τ : Term) (n : ℕ) (places : List ℕ) (depth : ℕ) (work : List ℕ) (top : ℕ) (r : Inferred) (after places′ : List ℕ) : Type 0 where
   pub answer : r ≡ inferred.Typed n (size τ)
   pub lies : take (size τ) (drop top after) ≡ words τ
   pub front : take top after ≡ take top work
@@ -56,7 +56,7 @@ pub record Found (τ : Term) (n : ℕ) (places : List ℕ) (depth : ℕ) (work :
 -- By the answer of the calculus: the type lies in the slice, or the refusal is the same.
 pub data Infers : Answer Term → Term → List ℕ → ℕ → List ℕ → ℕ → Inferred → List ℕ → List ℕ → Type 0 where
   finds : {τ e : Term} {places : List ℕ} {depth : ℕ} {work : List ℕ} {top : ℕ} {r : Inferred} {after places′ : List ℕ}
-      → Found τ (size e) places depth work top r after places′ → Infers (ok τ) e places depth work top r after places′
+      → TypeFound τ (size e) places depth work top r after places′ → Infers (ok τ) e places depth work top r after places′
   refuses : {s : Reason} {p : ℕ} {e : Term} {places : List ℕ} {depth : ℕ} {work : List ℕ} {top : ℕ} {r : Inferred} {after places′ : List ℕ}
       → inferred-of r ≡ refused s p → Infers (refused s p) e places depth work top r after places′
 
