@@ -10,6 +10,7 @@ pub mod ReadingEdges
 pub mod PartLaw
 pub mod Parallel
 pub mod Bridge
+pub mod Scoping
 pub mod Reduction
 pub mod Stepping
 pub mod Along

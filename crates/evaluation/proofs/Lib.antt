@@ -1,5 +1,4 @@
 -- The laws behind the functions' proofs.
-pub mod Scoping
 pub mod States
 pub mod Turns
 pub mod Answers

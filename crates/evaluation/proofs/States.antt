@@ -16,15 +16,14 @@ use Rattle.calculus.specs.Step as calculus
 use Rattle.calculus.specs.Outcomes.{begun}
 use Rattle.calculus.proofs.Coding.{words-length}
 use Rattle.calculus.proofs.Stepping.{next-step}
+use Rattle.calculus.proofs.Scoping.{scoped-more, step-scoped}
 use Rattle.reduction.specs.Writing.{Writes}
-use Rattle.reduction.specs.Stepping.{Codes, Arrives, Steps}
+use Rattle.reduction.specs.Stepping.{CodesWithin, Arrives, Steps}
 use Rattle.reduction.specs.declared.copying.Room.{Room}
 use Rattle.reduction.specs.declared.stepping.Stepped.{Stepped}
 use Rattle.reduction.specs.declared.stepping.Stepped.the-variants as stepped
-use Rattle.reduction.proofs.Scoping.{scoped-more}
 use Rattle.evaluation.specs.Courses.{Spells, Holds, Advances}
 use Rattle.reduction.proofs.Begun.{sets-begun, writes-begun, take-begun, drop-begun}
-use Rattle.evaluation.proofs.Scoping.{step-scoped}
 
 pub readable-spells : (e : List ℕ) {t : Term} → e ≡ words t → Readable t → Spells e (length e) t
 readable-spells e {t} h r =
@@ -34,7 +33,7 @@ pub spells-length : {e : List ℕ} {count : ℕ} {x : Term} → Spells e count x
 spells-length {x} h = ap length (h .coded) ∙ words-length x ∙ sym (h .extent)
 
 -- What a step asks of them.
-pub spells-codes : {e : List ℕ} {count : ℕ} {x : Term} → Spells e count x → Codes e true
+pub spells-codes : {e : List ℕ} {count : ℕ} {x : Term} → Spells e count x → CodesWithin e true
 spells-codes {x} h =
     record {
       term = x;

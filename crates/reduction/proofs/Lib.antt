@@ -7,7 +7,6 @@ pub mod Changes
 pub mod Passing
 pub mod Tails
 pub mod Turns
-pub mod Scoping
 pub mod Rewritten
 pub mod Frames
 pub mod Redexes

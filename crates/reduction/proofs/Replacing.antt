@@ -17,13 +17,13 @@ use Rattle.term.proofs.Walking.{span-words}
 use Rattle.reduction.specs.declared.rewriting.Change.the-variants.{Put}
 use Rattle.reduction.specs.declared.stepping.Stepped.{Stepped}
 use Rattle.reduction.specs.Rewriting.{Bounded, Plain, instantiated}
-use Rattle.reduction.specs.Stepping.{Arrives, Codes, Replaceable, Steps, replaced}
+use Rattle.reduction.specs.Stepping.{Arrives, CodesWithin, Replaceable, Steps, replaced}
 use Rattle.reduction.proofs.Plain.{plain-words}
 use Rattle.reduction.proofs.Rewritten.{instantiated-words, closed-raised}
 use Rattle.reduction.proofs.Spans.{Spanned}
 use Rattle.reduction.proofs.Placing.{Placed, placed-within, reaches}
 
-module _ {ws k : List ℕ} {n end : ℕ} {t : Term} {closed : Bool} (c : Codes ws closed) (p : Spanned ws n t k end) where
+module _ {ws k : List ℕ} {n end : ℕ} {t : Term} {closed : Bool} (c : CodesWithin ws closed) (p : Spanned ws n t k end) where
   short : size t ≤ longest
   short = omega (arith, p .count, p .within, ap length (c .coded), words-length (c .term), c .short)
 
@@ -50,7 +50,7 @@ module _ {ws k : List ℕ} {n end : ℕ} {t : Term} {closed : Bool} (c : Codes w
 module _ {ws k : List ℕ} {at i j m end : ℕ} {s e u : Term}
     (p : Placed ws at s) (b : Spanned ws i e k j) (v : Spanned ws m u (p .rest) end) where
   pub replaceable : {closed : Bool}
-      → Codes ws closed
+      → CodesWithin ws closed
       → ((n : ℕ) → Scoped n s → Scoped (suc n) e)
       → ((n : ℕ) → Scoped n s → Scoped n u)
       → Replaceable ws at end (take (j - i) (drop i ws)) (take (end - m) (drop m ws)) closed

@@ -19,7 +19,6 @@ use Rattle.reduction.specs.declared.rewriting.Change.the-variants as cha
 use Rattle.reduction.specs.Rewriting.{changed-word, instantiated, put-word, raised, raised-word, rewritten}
 use Rattle.reduction.proofs.Changes.{unchanged, changed-raised, changed-lowered, changed-put}
 use Rattle.reduction.proofs.Passing.{rewritten-leaf, rewritten-one, rewritten-two}
-pub use Rattle.reduction.proofs.Plain.{plain-words}
 
 -- `f` does to words under so many binders what `h` does to terms.
 record Follows (f : ℕ → ℕ → List ℕ) (h : ℕ → Term → Term) : Type 0 where

@@ -2,6 +2,7 @@
 -- them is as it was. What is written by two calls, one behind the other, is both their words; where the first or the second does
 -- not fit, neither do both.
 use Prim.Native.Nat.{ℕ, _+_, _≤_, _<_}
+use mathlib.Core.Bool.{true≢false}
 use mathlib.Core.List.{List, _++_}
 use mathlib.Core.Path.{_≡_, refl, sym, ap, _∙_}
 use native.Mathlib.Nat.{le-refl}
@@ -42,23 +43,23 @@ module _ {R : Type 0} {to : ℕ → R} {none : R} {e out : List ℕ} {at : ℕ} 
 module _ {e out : List ℕ} {at : ℕ} {r : Room} {after : List ℕ} (w : Writes e out at r after) where
   pub wrote-of : {next : ℕ} → r ≡ room.To next → Wrote e out at next after
   wrote-of {next} to =
-      let (wrote, said) = fitted w (λ n. let z : _≡_ {A = ℕ} 0 1 = cc in omega arith) in
+      let (wrote, said) = fitted w (λ n. true≢false cc) in
       let same : next ≡ at + length e = cc in
       rw same wrote
 
   pub lacked-of : r ≡ room.Full → Lacked e out at after
-  lacked-of n = missed w (λ m to. let z : _≡_ {A = ℕ} 0 1 = cc in omega arith)
+  lacked-of n = missed w (λ m to. true≢false cc)
 
 module _ {e : List ℕ} {read : ℕ} {out : List ℕ} {at : ℕ} {r : Progress} {after : List ℕ}
     (w : Rewrites e read out at r after) where
   pub rewrote-of : {more next : ℕ} → r ≡ progress.To more next → (more ≡ read) × Wrote e out at next after
   rewrote-of {more} {next} to =
-      let (wrote, said) = fitted w (λ n. let z : _≡_ {A = ℕ} 0 1 = cc in omega arith) in
+      let (wrote, said) = fitted w (λ n. true≢false cc) in
       let same : next ≡ at + length e = cc in
       (cc, rw same wrote)
 
   pub relacked-of : r ≡ progress.Full → Lacked e out at after
-  relacked-of n = missed w (λ m to. let z : _≡_ {A = ℕ} 0 1 = cc in omega arith)
+  relacked-of n = missed w (λ m to. true≢false cc)
 
 module _ {e out : List ℕ} {at next : ℕ} {mid : List ℕ} (w : Wrote e out at next mid) where
   pub length-wrote : length mid ≡ length out

@@ -71,7 +71,7 @@ heads [] = 0
 heads (w ∷ ws) = cond (leb 1 w && leb w 2) (suc (heads ws)) 0
 
 -- The words are those of a term of at most 1,024 words, in a context of at most 64 annotations; of a closed term where `closed`.
-pub record Codes (ws : List ℕ) (closed : Bool) : Type 0 where
+pub record CodesWithin (ws : List ℕ) (closed : Bool) : Type 0 where
   pub term : Term
   pub coded : ws ≡ words term
   pub short : size term ≤ longest

@@ -11,7 +11,7 @@ ghost use lib.ListN.{length, drop};
 ghost use Rattle.calculus.specs.Term.{Term};
 ghost use Rattle.calculus.specs.Words.{words};
 ghost use Rattle.term.specs.Walk.{span};
-ghost use Rattle.reduction.specs.Stepping.{Arrives, Coded, Codes, Finishes, Located, Replaceable, Tells, heads, locate, replaced};
+ghost use Rattle.reduction.specs.Stepping.{Arrives, Coded, CodesWithin, Finishes, Located, Replaceable, Tells, heads, locate, replaced};
 
 // Where a state steps and by which rule: the place of the application, of the down cast or of the recursion.
 enum Redex {
@@ -131,7 +131,7 @@ fn finish(rest: &[u16], out: &mut [u16], at: usize) -> Stepped
 
 // S_BETA at the application at `at`.
 fn beta(state: &[u16], at: usize, closed: bool, out: &mut [u16]) -> Stepped
-    requires { ⌜ Codes (now state) closed × Located (now state) (Redex.Beta at) ⌝ }
+    requires { ⌜ CodesWithin (now state) closed × Located (now state) (Redex.Beta at) ⌝ }
     ensures { λ r. ⌜ Tells (now (state .entry)) (now (out .entry)) r (now (out .exit)) ⌝ }
 {
     let annotation = at + 2;
@@ -151,7 +151,7 @@ fn beta(state: &[u16], at: usize, closed: bool, out: &mut [u16]) -> Stepped
 
 // S_MU at the recursion at `at`.
 fn unfold(state: &[u16], at: usize, closed: bool, out: &mut [u16]) -> Stepped
-    requires { ⌜ Codes (now state) closed × Located (now state) (Redex.Unfold at) ⌝ }
+    requires { ⌜ CodesWithin (now state) closed × Located (now state) (Redex.Unfold at) ⌝ }
     ensures { λ r. ⌜ Tells (now (state .entry)) (now (out .entry)) r (now (out .exit)) ⌝ }
 {
     let annotation = at + 1;
@@ -183,7 +183,7 @@ fn cancel(state: &[u16], at: usize, out: &mut [u16]) -> Stepped
 
 // The next state of `state`, written to the front of `out`; `closed` where the state is a closed term.
 pub fn step(state: &[u16], closed: bool, out: &mut [u16]) -> Stepped
-    requires { ⌜ Codes (now state) closed ⌝ }
+    requires { ⌜ CodesWithin (now state) closed ⌝ }
     ensures { λ r. ⌜ Tells (now (state .entry)) (now (out .entry)) r (now (out .exit)) ⌝ }
 {
     match find_redex(state) {

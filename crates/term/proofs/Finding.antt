@@ -9,7 +9,7 @@ use lib.ListN.{length, getD, take, drop, length-drop}
 use lib.Seq.{take-all, drop-at, drop-drop}
 use Rattle.calculus.specs.Term.{Term, var, star, app, lam, pi, castup, castdown, mu, size}
 use Rattle.calculus.specs.Words.{emit, words}
-use Rattle.calculus.specs.Answer.{Reason, Answer, ok, refused}
+use Rattle.calculus.specs.Answer.{Reason, ok, refused}
 use Rattle.calculus.specs.Reading.{meaning, binds, read}
 use Rattle.calculus.specs.Outcomes.{absent, parts, nth-part, found-in, found}
 use Rattle.calculus.proofs.Coding.{emit-append, words-length}
@@ -18,7 +18,7 @@ use Rattle.calculus.proofs.ReadBack.{read-sound}
 use Rattle.term.specs.Word.{arity}
 use Rattle.term.specs.Walk.{span}
 use Rattle.term.specs.Subterms.{outcome}
-use Rattle.term.proofs.Walking.{span-emit, read-term}
+use Rattle.term.proofs.Walking.{span-emit, read-term, reads-refusal}
 use Rattle.term.proofs.Words.{no-parts}
 
 -- The first of some terms in their words, the second, and a number for which there is none.
@@ -85,11 +85,7 @@ accepted ws h = let (t, e) = read-term ws (sym h) in read-node ws t e
 
 pub found-refused : {s : Reason} {q : ℕ} (ws : List ℕ) (k : ℕ) → refused s q ≡ outcome (read ws) → absent ≡ found ws k
 unfolding found found-in
-found-refused {s} {q} ws k = on (read ws)
-  where
-    on : (x : Answer Term) → refused s q ≡ outcome x → absent ≡ found-in k x
-    on (ok t) h = let z : _≡_ {A = ℕ} 0 1 = cc in absurd (omega arith)
-    on (refused r p) h = refl
+found-refused ws k h = rw (reads-refusal ws (sym h)) refl
 
 module _ (ws : List ℕ) (e : ok tt ≡ outcome (read ws)) where
   pub inhabited : 1 ≤ length ws

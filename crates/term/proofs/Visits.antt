@@ -2,11 +2,10 @@
 -- do. The code knows the meaning as a variant, most often only by the number of the variant, its tag. Only a variable needs more
 -- than that: the tests and the parts of every other variant go by the tag alone.
 use Prim.Native.Nat.{ℕ, _≤_, _<_}
-use mathlib.Core.Bool.{Bool, true, false, not}
+use mathlib.Core.Bool.{Bool, true, false, not, true≢false}
 use mathlib.Core.List.{List, [], _∷_}
 use mathlib.Core.Logic.{inl, inr}
 use mathlib.Core.Path.{_≡_, refl, sym, ap, subst}
-use native.Mathlib.Omega.{arith}
 use borrow.Author.Tests.{lt-ltb, le-ltb}
 use lib.Dec.{T, ltb, eqb, ltb→lt}
 use lib.ListN.{getD}
@@ -47,9 +46,9 @@ tested : {ks js : List ℕ} (p : ℕ) (a b c : Bool)
     → T b × (js ≡ ks)
 unfolding require _>>=_ _>>_
 tested p true true true e = (tt, cc)
-tested p true true false e = let z : _≡_ {A = ℕ} 0 1 = cc in absurd (omega arith)
-tested p true false c e = let z : _≡_ {A = ℕ} 0 1 = cc in absurd (omega arith)
-tested p false b c e = let z : _≡_ {A = ℕ} 0 1 = cc in absurd (omega arith)
+tested p true true false e = absurd (true≢false cc)
+tested p true false c e = absurd (true≢false cc)
+tested p false b c e = absurd (true≢false cc)
 
 module _ {ks : List ℕ} (w : ℕ) (s : Pending) (p : ℕ) (e : ok ks ≡ visited w s p) where
   answers : T (ltb 0 (s .room)) × (ks ≡ binds (meaning w))

@@ -2,6 +2,7 @@
 -- the parts that stand behind it. The words of j + k subterms are those of j, and behind them those of k. What reading accepts is
 -- such words, so the walk finds its way in every accepted list.
 use Prim.Native.Nat.{ℕ, zero, suc, _+_, _-_, _≤_, _<_}
+use mathlib.Core.Bool.{true≢false}
 use mathlib.Core.List.{List, [], _∷_}
 use mathlib.Core.Path.{_≡_, refl, ap, _∙_}
 use native.Mathlib.Nat.{zero-add, suc-add, add-assoc}
@@ -102,7 +103,7 @@ read-term ws = on (read ws)
   where
     on : (x : Answer Term) → outcome x ≡ ok tt → (t : Term) × (x ≡ ok t)
     on (ok t) h = (t, refl)
-    on (refused r p) h = let z : _≡_ {A = ℕ} 0 1 = cc in absurd (omega arith)
+    on (refused r p) h = absurd (true≢false cc)
 
 pub reads-term : (ws : List ℕ) → outcome (read ws) ≡ ok tt → (t : Term) × (ws ≡ words t) × Readable t
 reads-term ws h =
@@ -115,5 +116,5 @@ pub reads-refusal : (ws : List ℕ) {r : Reason} {p : ℕ} → outcome (read ws)
 reads-refusal ws {r} {p} h = on (read ws) h
   where
     on : (x : Answer Term) → outcome x ≡ refused r p → x ≡ refused r p
-    on (ok t) h = let z : _≡_ {A = ℕ} 0 1 = cc in absurd (omega arith)
+    on (ok t) h = absurd (true≢false cc)
     on (refused s q) h = cc

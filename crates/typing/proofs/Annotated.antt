@@ -11,6 +11,7 @@ use Rattle.calculus.specs.Words.{words, longest}
 use Rattle.calculus.proofs.Coding.{emit-length}
 use Rattle.term.specs.Walk.{span}
 use Rattle.term.proofs.Walking.{span-emit}
+use Rattle.term.proofs.Finding.{from-on}
 use Rattle.reduction.specs.declared.copying.Room.{Room}
 use Rattle.reduction.specs.Writing.{Writes}
 use Rattle.reduction.specs.Rewriting.{raised}
@@ -19,11 +20,11 @@ use Rattle.typing.specs.Inference.{Annotation, Raises}
 use Rattle.typing.specs.declared.inference.Inferred.the-variants as inferred
 use Rattle.typing.proofs.Lent.{puts}
 use Rattle.typing.proofs.Raising.{raise-size}
-use Rattle.typing.proofs.Subjects.{behind, behind-drop, begun-words}
+use Rattle.typing.proofs.Subjects.{behind, begun-words}
 
 module _ {a : Term} {index : ℕ} {term : List ℕ} {from : ℕ} (A : Annotation a index term from) where
   pub annotation-span : span (behind from term) 1 ≡ size a
-  annotation-span = ap (λ ws. span ws 1) (behind-drop from term ∙ A .begins) ∙ span-emit a (A .rest)
+  annotation-span = ap (λ ws. span ws 1) (from-on term from ∙ A .begins) ∙ span-emit a (A .rest)
 
   pub annotation-words : (n : ℕ) → n ≡ size a → take n (drop from term) ≡ words a
   annotation-words n same = begun-words a n (A .rest) (A .begins) same

@@ -16,8 +16,8 @@ use Rattle.calculus.specs.Reading.{meaning, a-pi}
 use Rattle.calculus.specs.Rules.{Context}
 use Rattle.calculus.specs.Infer.{infer}
 use Rattle.calculus.proofs.Coding.{emit-append, emit-length, words-length}
-use Rattle.reduction.specs.Stepping.{Codes}
-use Rattle.reduction.proofs.Scoping.{scoped-more}
+use Rattle.calculus.proofs.Scoping.{scoped-more}
+use Rattle.reduction.specs.Stepping.{CodesWithin}
 use Rattle.term.specs.Walk.{span}
 use Rattle.term.proofs.Walking.{span-emit}
 use Rattle.typing.specs.Inference.{Subject}
@@ -149,7 +149,7 @@ module _ {L : ℕ} {Γ : Context} {p : ℕ} {f u : Term} {places : List ℕ} {de
     pub codomain-codes : {term sub : List ℕ}
         → Subject Γ (app f u) term sub places depth
         → L ≤ longest
-        → Codes (take (m - 1 - d) (drop (top + 1 + d) after)) false
+        → CodesWithin (take (m - 1 - d) (drop (top + 1 + d) after)) false
     codomain-codes S h =
         record {
           term = C .codomain;

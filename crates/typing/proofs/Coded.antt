@@ -14,8 +14,9 @@ use Rattle.term.specs.Walk.{span}
 use Rattle.term.proofs.Walking.{span-words}
 use Rattle.reduction.specs.Rewriting.{Plain, Bounded, raised}
 use Rattle.reduction.specs.declared.rewriting.Change.the-variants as change
-use Rattle.reduction.specs.Stepping.{Codes}
-use Rattle.reduction.proofs.Rewritten.{plain-words, closed-raised}
+use Rattle.reduction.specs.Stepping.{CodesWithin}
+use Rattle.reduction.proofs.Plain.{plain-words}
+use Rattle.reduction.proofs.Rewritten.{closed-raised}
 
 module _ (t : Term) where
   pub words-whole : span (words t) 1 ≡ length (words t)
@@ -24,7 +25,7 @@ module _ (t : Term) where
   pub words-plain : size t ≤ longest → Scoped deepest t → Plain (words t)
   words-plain h s = plain-words deepest t s (omega arith)
 
-module _ {ws : List ℕ} {closed : Bool} (k : Codes ws closed) where
+module _ {ws : List ℕ} {closed : Bool} (k : CodesWithin ws closed) where
   pub codes-whole : span ws 1 ≡ length ws
   codes-whole = subst (λ x. span x 1 ≡ length x) (sym (k .coded)) (words-whole (k .term))
 
@@ -44,7 +45,7 @@ module _ {ws : List ℕ} {closed : Bool} (k : Codes ws closed) where
 -- A part of a list that is the words of such a term is short.
 pub codes-part : (ws : List ℕ) (from count : ℕ) {closed : Bool}
     → from + count ≤ length ws
-    → Codes (take count (drop from ws)) closed
+    → CodesWithin (take count (drop from ws)) closed
     → count ≤ longest
 codes-part ws from count inside k =
     let rest = length-drop from ws in

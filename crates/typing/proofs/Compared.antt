@@ -1,7 +1,7 @@
 -- Two terms are the same if and only if their words are: so terms of different lengths differ, and where both lie in a slice, a
 -- comparison of as many words as both have decides it.
 use Prim.Native.Nat.{ℕ, _+_, _≤_}
-use mathlib.Core.Bool.{Bool, true, false, not}
+use mathlib.Core.Bool.{Bool, true, false, not, true≢false}
 use mathlib.Core.List.{List}
 use mathlib.Core.Logic.{_≢_, _↔_}
 use mathlib.Core.Path.{_≡_, sym, ap, _∙_}

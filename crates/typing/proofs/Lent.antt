@@ -16,7 +16,7 @@ use Rattle.reduction.specs.declared.copying.Room.the-variants as room
 use Rattle.reduction.specs.declared.stepping.Stepped.{Stepped}
 use Rattle.reduction.specs.declared.stepping.Stepped.the-variants as stepped
 use Rattle.reduction.specs.Writing.{Writes}
-use Rattle.reduction.specs.Stepping.{Codes, Steps}
+use Rattle.reduction.specs.Stepping.{CodesWithin, Steps}
 use Rattle.typing.specs.Moving.{Puts, Moves}
 use Rattle.typing.proofs.Coded.{codes-part}
 use Rattle.typing.proofs.Stored.{stored-front, stored-part, stored}
@@ -60,7 +60,7 @@ moves (calculus.next x) work top limit n r part same room-for w =
 -- A term's words, `count` from `from` on, copied to the front of an array that has room for the longest term.
 pub copied : (work : List ℕ) (from count : ℕ) {closed : Bool} {r : Room} {after : List ℕ}
     → from + count ≤ length work
-    → Codes (take count (drop from work)) closed
+    → CodesWithin (take count (drop from work)) closed
     → Writes (take (from + count - from) (drop from work)) (replicate 1024 0) 0 r after
     → take count after ≡ take count (drop from work)
 copied work from count {r} {after} inside K w =

@@ -11,8 +11,8 @@ use lib.ListN.{length}
 use Rattle.calculus.specs.Term.{Term, var, star, app, lam, pi, castup, castdown, mu, size}
 use Rattle.calculus.specs.Words.{words, levels, Scoped, longest, deepest}
 use Rattle.calculus.specs.Rules.{Context}
-use Rattle.reduction.specs.Stepping.{Codes}
-use Rattle.reduction.proofs.Scoping.{scoped-more}
+use Rattle.calculus.proofs.Scoping.{scoped-more}
+use Rattle.reduction.specs.Stepping.{CodesWithin}
 use Rattle.typing.specs.Inference.{Subject, Roomy}
 use Rattle.typing.proofs.Subjects.{subject-long}
 
@@ -49,7 +49,7 @@ module _ {Γ : Context} {e : Term} {term sub places : List ℕ} {depth : ℕ} (S
       → size τ ≤ longest
       → ws ≡ words τ
       → (closed ≡ true → depth ≡ 0)
-      → Codes ws closed
+      → CodesWithin ws closed
   scoped-codes τ closed s f x h =
       record {
         term = τ;
@@ -60,7 +60,7 @@ module _ {Γ : Context} {e : Term} {term sub places : List ℕ} {depth : ℕ} (S
       }
 
   -- The subterm itself.
-  pub subject-codes : {ws : List ℕ} (closed : Bool) → ws ≡ words e → (closed ≡ true → depth ≡ 0) → Codes ws closed
+  pub subject-codes : {ws : List ℕ} (closed : Bool) → ws ≡ words e → (closed ≡ true → depth ≡ 0) → CodesWithin ws closed
   subject-codes closed x h = scoped-codes e closed own-scope (omega (arith, subject-long S, S .within, S .short)) x h
 
 module _ {e : Term} {work : List ℕ} {top limit : ℕ} (R : Roomy e work top limit) where

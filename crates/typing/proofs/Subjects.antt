@@ -8,11 +8,12 @@ use native.Mathlib.Nat.{le-refl}
 use native.Mathlib.Numerals.{add-one}
 use native.Mathlib.Omega.{arith}
 use lib.ListN.{length, take, drop, getD, set, length-drop, length-set}
-use lib.Seq.{take-all, take-at, drop-at, drop-drop, take-take, take-set-le, getD-take, getD-set-same}
+use lib.Seq.{take-at, drop-at, drop-drop, take-take, take-set-le, getD-take, getD-set-same}
 use Rattle.calculus.specs.Term.{Term, star, castdown, size}
 use Rattle.calculus.specs.Words.{emit, words, levels, Scoped, longest, deepest}
 use Rattle.calculus.specs.Rules.{Context, WellFormed, env-var, _⊢_⦂_}
 use Rattle.calculus.proofs.Coding.{emit-append, emit-length, words-length, size-positive}
+use Rattle.term.proofs.Finding.{from-on}
 use Rattle.typing.specs.Inference.{Subject, Placed}
 use Rattle.typing.proofs.Nodes.{Two, two-size, two-levels, two-emit, first-scoped, second-scoped, under-scoped}
 
@@ -20,11 +21,8 @@ use Rattle.typing.proofs.Nodes.{Two, two-size, two-levels, two-emit, fi
 abbrev pub behind : ℕ → List ℕ → List ℕ
 behind k ws = take (length ws - k) (drop k ws)
 
-pub behind-drop : (k : ℕ) (ws : List ℕ) → behind k ws ≡ drop k ws
-behind-drop k ws = take-all (length ws - k) (drop k ws) (omega (arith, length-drop k ws))
-
 pub behind-length : (k : ℕ) (ws : List ℕ) → length (behind k ws) ≡ length ws - k
-behind-length k ws = ap length (behind-drop k ws) ∙ length-drop k ws
+behind-length k ws = ap length (from-on ws k) ∙ length-drop k ws
 
 -- The words that begin with a term's: as many as it is long are its own.
 pub begun-words : (e : Term) (n : ℕ) (rest : List ℕ) {ws : List ℕ} → ws ≡ emit e rest → n ≡ size e → take n ws ≡ words e
@@ -88,9 +86,9 @@ module _ {Γ : Context} {e : Term} {term sub places : List ℕ} {depth : ℕ} (S
   at-end k r h x d v p w s l =
       record {
         rest = r;
-        begins = behind-drop k sub ∙ x;
+        begins = from-on sub k ∙ x;
         ends =
-            behind-drop k sub
+            from-on sub k
             ∙ ap (drop k) (S .ends)
             ∙ drop-drop k (length term - length sub) term
             ∙ ap (λ n. drop n term) (sym (further k h));
@@ -193,7 +191,7 @@ pub part-words : {Γ : Context} {e : Term} {term places : List ℕ} {depth : ℕ
     → Subject Γ e term (behind from sub) places depth
     → n ≡ size e
     → take n (drop from sub) ≡ words e
-part-words {e} sub from n S x = begun-words e n (S .rest) (sym (behind-drop from sub) ∙ S .begins) x
+part-words {e} sub from n S x = begun-words e n (S .rest) (sym (from-on sub from) ∙ S .begins) x
 
 -- A subject by another name.
 pub renamed : {Γ : Context} {e e′ : Term} {term sub places : List ℕ} {depth : ℕ}

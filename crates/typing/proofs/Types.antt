@@ -12,7 +12,7 @@ use Rattle.calculus.specs.Words.{words, Scoped, longest}
 use Rattle.calculus.specs.Rules.{Context, _⊢_⦂_}
 use Rattle.calculus.specs.Infer.{infer}
 use Rattle.calculus.proofs.Inference.{infer-sound}
-use Rattle.reduction.specs.Stepping.{Codes}
+use Rattle.reduction.specs.Stepping.{CodesWithin}
 use Rattle.typing.specs.Inference.{Subject}
 use Rattle.typing.proofs.Scoping.{inferred-scoped, inferred-fits}
 use Rattle.typing.proofs.Rooms.{own-scope, scoped-codes}
@@ -27,6 +27,6 @@ module _ {Γ : Context} {e : Term} {term sub places : List ℕ} {depth : ℕ} (S
   pub type-fits : size τ ≤ L
   type-fits = inferred-fits L p e (S .well-formed) (own-scope S) x
 
-  pub type-codes : {ws : List ℕ} (closed : Bool) → L ≤ longest → ws ≡ words τ → (closed ≡ true → depth ≡ 0) → Codes ws closed
+  pub type-codes : {ws : List ℕ} (closed : Bool) → L ≤ longest → ws ≡ words τ → (closed ≡ true → depth ≡ 0) → CodesWithin ws closed
   type-codes closed h y shut =
       scoped-codes S τ closed type-scoped (omega (arith, type-fits)) y shut

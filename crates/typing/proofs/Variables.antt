@@ -13,7 +13,7 @@ use Rattle.calculus.specs.Infer.{infer, measure, annotation}
 use Rattle.calculus.proofs.Bridge.{raise-moves, raise-more}
 use Rattle.calculus.proofs.Testing.{fitting, over}
 use Rattle.calculus.proofs.Types as types
-use Rattle.reduction.proofs.Scoping.{scoped-more}
+use Rattle.calculus.proofs.Scoping.{scoped-more}
 use Rattle.typing.specs.declared.inference.Inferred.{Inferred}
 use Rattle.typing.specs.Inference.{Subject, Placed, Annotation, Raises, Infers, refuses}
 use Rattle.typing.proofs.Passing.{found}

@@ -11,7 +11,7 @@ ghost use lib.ListN.{drop, length, take};
 ghost use Rattle.calculus.specs.Term.{Term, substitute};
 ghost use Rattle.calculus.specs.Words.{words};
 ghost use Rattle.calculus.specs.Step as calculus;
-ghost use Rattle.reduction.specs.Stepping.{Codes};
+ghost use Rattle.reduction.specs.Stepping.{CodesWithin};
 ghost use Rattle.typing.specs.Moving.{Moves, Puts};
 
 // The codomain, from `from` on and `count` words long, with the argument put in: written at `top` within the limit.
@@ -24,7 +24,7 @@ pub fn put_in(
     top: usize,
     limit: usize,
 ) -> Room
-    requires { ⌜ (top + limit ≤ length (now work)) × (from + count ≤ length (now work)) × Codes (take count (drop from (now work))) false × Codes (now argument) closed ⌝ }
+    requires { ⌜ (top + limit ≤ length (now work)) × (from + count ≤ length (now work)) × CodesWithin (take count (drop from (now work))) false × CodesWithin (now argument) closed ⌝ }
     ensures { λ r. ⌜ ((b u : Term) → take count (drop from (now (work .entry))) ≡ words b → now (argument .entry) ≡ words u → Puts (substitute 0 u b) (now (work .entry)) top limit r (now (work .exit))) ⌝ }
 {
     let mut codomain = [0u16; 1024];
@@ -36,7 +36,7 @@ pub fn put_in(
 
 // The next state of `state`, written at `top` within the limit.
 pub fn step_into(state: &[u16], closed: bool, work: &mut [u16], top: usize, limit: usize) -> Stepped
-    requires { ⌜ (top + limit ≤ length (now work)) × Codes (now state) closed ⌝ }
+    requires { ⌜ (top + limit ≤ length (now work)) × CodesWithin (now state) closed ⌝ }
     ensures { λ r. ⌜ ((b : Term) → now (state .entry) ≡ words b → Moves (calculus.step b) (now (work .entry)) top limit r (now (work .exit))) ⌝ }
 {
     let end = top + limit;
@@ -45,7 +45,7 @@ pub fn step_into(state: &[u16], closed: bool, work: &mut [u16], top: usize, limi
 
 // The type at `top`, `count` words long, moved by one step within the limit.
 pub fn step_type(closed: bool, work: &mut [u16], top: usize, count: usize, limit: usize) -> Stepped
-    requires { ⌜ (top + limit ≤ length (now work)) × (top + count ≤ length (now work)) × Codes (take count (drop top (now work))) closed ⌝ }
+    requires { ⌜ (top + limit ≤ length (now work)) × (top + count ≤ length (now work)) × CodesWithin (take count (drop top (now work))) closed ⌝ }
     ensures { λ r. ⌜ ((b : Term) → take count (drop top (now (work .entry))) ≡ words b → Moves (calculus.step b) (now (work .entry)) top limit r (now (work .exit))) ⌝ }
 {
     let mut copied = [0u16; 1024];

@@ -11,7 +11,7 @@ use Rattle.calculus.specs.Term.{substitute}
 use Rattle.calculus.specs.Words.{words, longest}
 use Rattle.reduction.specs.Writing.{Writes}
 use Rattle.reduction.specs.Rewriting.{instantiated}
-use Rattle.reduction.specs.Stepping.{Codes}
+use Rattle.reduction.specs.Stepping.{CodesWithin}
 use Rattle.reduction.proofs.Rewritten.{instantiated-words}
 use Rattle.typing.proofs.Coded.{codes-whole, codes-short, codes-plain, codes-bounded, codes-part}
 use Rattle.typing.proofs.Lent.{copied, puts}
@@ -48,7 +48,7 @@ substitute-requires : tie.Need-substitute-requires
 substitute-requires c κs =
     let s = c .before .before .before .before .before .before .before .before .before in
     let room-for = slice-aggregate-substitute-2 c in
-    let k = subst (λ x. Codes x false) (sym (begins (c .before .before .before))) (s .pre .2) in
+    let k = subst (λ x. CodesWithin x false) (sym (begins (c .before .before .before))) (s .pre .2) in
     (omega arith, codes-whole k, omega (arith, codes-short k), codes-plain k, codes-bounded (s .pre .3))
 
 returns : tie.Need-returns

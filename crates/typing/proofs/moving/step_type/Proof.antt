@@ -7,7 +7,7 @@ use borrow.Author.Needs.{needs}
 use lib.ListN.{take, drop}
 use lib.Seq.{length-take-le}
 use Rattle.calculus.specs.Words.{longest}
-use Rattle.reduction.specs.Stepping.{Codes}
+use Rattle.reduction.specs.Stepping.{CodesWithin}
 use Rattle.typing.proofs.Coded.{codes-part}
 use Rattle.typing.proofs.Lent.{copied}
 use Rattle.typing.proofs.moving.step_type.Statement.{statement}
@@ -37,7 +37,7 @@ slice-aggregate-step-into c =
 step-into-requires : tie.Need-step-into-requires
 step-into-requires c κs =
     let s = c .before .before .before .before .before .before .before .before in
-    (s .pre .0, subst (λ x. Codes x (s .args .closed)) (sym (begins (c .before .before .before))) (s .pre .2))
+    (s .pre .0, subst (λ x. CodesWithin x (s .args .closed)) (sym (begins (c .before .before .before))) (s .pre .2))
 
 returns : tie.Need-returns
 returns c = λ b h. c .before .before .step-into .ensures b (begins (c .before .before .before .before .before .before) ∙ h)

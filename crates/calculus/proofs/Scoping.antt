@@ -1,15 +1,26 @@
--- A step of a term has no other free variables than the term: what is put in for a variable is part of the term, and a walk
--- through a term that takes every variable in scope to a term in scope takes every term in scope to one, since this goes under
--- a binder.
-use Prim.Native.Nat.{ℕ, zero, suc, _<_}
+-- Which variables are free. More may be in scope than a term has, since an index below one bound is below a larger one, under binders
+-- too. A step adds none: what is put in for a variable is part of the term, and a walk through a term that takes every variable in
+-- scope to a term in scope takes every term in scope to one, since this goes under a binder.
+use Prim.Native.Nat.{ℕ, zero, suc, _≤_, _<_}
 use mathlib.Core.Path.{sym, subst}
 use native.Mathlib.Nat.{le-of-suc-le-suc}
 use native.Mathlib.Omega.{arith}
 use Rattle.calculus.specs.Term.{Term, var, star, app, lam, pi, castup, castdown, mu, substitute}
 use Rattle.calculus.specs.Words.{Scoped}
 use Rattle.calculus.specs.Rules.{_⟶_, s-beta, s-castdownup, s-app, s-castdown, s-mu}
 use Rattle.calculus.proofs.Parallel.{traverse, lift-index, rename, lift, sub}
 use Rattle.calculus.proofs.Bridge.{single, substitute-is-sub}
+
+pub scoped-more : {m n : ℕ} (e : Term) → m ≤ n → Scoped m e → Scoped n e
+unfolding Scoped
+scoped-more (var i) h s = omega arith
+scoped-more star h s = tt
+scoped-more (app f u) h s = (scoped-more f h (s .0), scoped-more u h (s .1))
+scoped-more (lam a e) h s = (scoped-more a h (s .0), scoped-more e (omega arith) (s .1))
+scoped-more (pi a b) h s = (scoped-more a h (s .0), scoped-more b (omega arith) (s .1))
+scoped-more (castup a e) h s = (scoped-more a h (s .0), scoped-more e h (s .1))
+scoped-more (castdown e) h s = scoped-more e h s
+scoped-more (mu a e) h s = (scoped-more a h (s .0), scoped-more e (omega arith) (s .1))
 
 module _ {A : Type 0} (v : A → Term) (l : (ℕ → A) → ℕ → A) where
   -- The variables below `n` go to terms with variables below `m`.
