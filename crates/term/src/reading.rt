@@ -3,6 +3,7 @@ use crate::refusal::Reason;
 use crate::refusal::Refusal;
 use crate::word::Meaning;
 use crate::word::classify;
+use crate::word::wide;
 ghost use mathlib.Core.Path.{_≡_};
 ghost use Prim.Native.Nat.{ℕ, _≤_};
 ghost use mathlib.Core.List.{[], _∷_};
@@ -53,12 +54,6 @@ fn tested(word: u16, room: usize, binders: usize) -> Visit
         Meaning::Abstraction | Meaning::Product | Meaning::Recursion => Visit::Two(1),
         Meaning::Star | Meaning::Nothing => Visit::Leaf,
     }
-}
-
-fn wide(word: u16) -> usize
-    ensures { λ r. ⌜ r ≡ word ⌝ }
-{
-    word as usize
 }
 
 // The levels and the binders of a pending subterm are kept in bytes: neither is above 64.

@@ -46,3 +46,10 @@ pub fn parts(table: &[u8; 8], word: u16) -> usize
     let row = if word < 7 { word as usize } else { 7 };
     table[row] as usize
 }
+
+// A word as a place or a count.
+pub fn wide(word: u16) -> usize
+    ensures { λ r. ⌜ r ≡ word ⌝ }
+{
+    word as usize
+}

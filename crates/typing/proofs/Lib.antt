@@ -1,4 +1,4 @@
--- Lemmas for the proofs of this crate's functions.
+-- The laws behind the functions' proofs.
 pub mod Scoping
 pub mod Passing
 pub mod Nodes

@@ -3,6 +3,7 @@
 use Prim.Native.Nat.{ℕ, suc, _+_, _-_, _≤_, _<_}
 use mathlib.Core.List.{List, _∷_}
 use mathlib.Core.Path.{_≡_, sym, ap, _∙_}
+use native.Mathlib.Nat.{le-refl}
 use native.Mathlib.Omega.{arith}
 use lib.ListN.{length, take, drop, set, length-set}
 use lib.Seq.{take-take}
@@ -57,11 +58,16 @@ module _ {Γ : Context} {e a : Term} {term sub places : List ℕ} {depth : ℕ} 
   pub beside : {b : Term} → Two 0 e a b → Subject Γ b term (behind (1 + n) sub) places₁ depth
   beside h = second (kept S (A .context) (A .wide)) (1 + n) h behind-annotation
 
-  pub both-beside : {b : Term} {more m : ℕ} {after places′ : List ℕ}
-      → Two 0 e a b
-      → Part (infer L Γ (length term - length (behind (1 + n) sub)) b) b places₁ depth mid top more m after places′
-      → Both L Γ Γ (length term - length sub) a b places depth work top top n more m after places′
-  both-beside h B =
+  -- Both parts, once the second is typed too, in its own context and from a place that is not before `top`.
+  both : {k : ℕ} {Δ : Context} {b : Term} {places₂ : List ℕ} {depth₂ from more m : ℕ} {after places′ : List ℕ}
+      → Two k e a b
+      → Subject Δ b term (behind (1 + n) sub) places₂ depth₂
+      → Part (infer L Δ (length term - length (behind (1 + n) sub)) b) b places₂ depth₂ mid from more m after places′
+      → top ≤ from
+      → take depth places′ ≡ take depth places
+      → length places′ ≡ length places
+      → Both L Γ Δ (length term - length sub) a b places depth work top from n more m after places′
+  both {from} {after} h S₂ B t context wide =
       record {
         type = B .type;
         annotation = annotation-found;
@@ -69,12 +75,22 @@ module _ {Γ : Context} {e a : Term} {term sub places : List ℕ} {depth : ℕ} 
         read = A .read;
         further = B .read;
         long = B .long;
-        fits = type-fits (beside h) L _ (B .found);
+        fits = type-fits S₂ L _ (B .found);
         lies = B .lies;
-        front = B .front ∙ A .front;
-        context = B .context ∙ A .context;
-        wide = B .wide ∙ A .wide;
+        front =
+            sym (take-take top from after t)
+            ∙ ap (take top) (B .front)
+            ∙ take-take top from mid t
+            ∙ A .front;
+        context = context;
+        wide = wide;
       }
+
+  pub both-beside : {b : Term} {more m : ℕ} {after places′ : List ℕ}
+      → Two 0 e a b
+      → Part (infer L Γ (length term - length (behind (1 + n) sub)) b) b places₁ depth mid top more m after places′
+      → Both L Γ Γ (length term - length sub) a b places depth work top top n more m after places′
+  both-beside h B = both h (beside h) B (le-refl top) (B .context ∙ A .context) (B .wide ∙ A .wide)
 
   pub below : {b : Term} (place : ℕ)
       → Two 1 e a b
@@ -98,24 +114,7 @@ module _ {Γ : Context} {e a : Term} {term sub places : List ℕ} {depth : ℕ} 
       → top ≤ from
       → Part (infer L (a ∷ Γ) (length term - length (behind (1 + n) sub)) b) b (set places₁ depth place) (depth + 1) mid from more m after places′
       → Both L Γ (a ∷ Γ) (length term - length sub) a b places depth work top from n more m after places′
-  both-below {from} {after} place h x t B =
-      record {
-        type = B .type;
-        annotation = annotation-found;
-        body = rw (← second-place h) (B .found);
-        read = A .read;
-        further = B .read;
-        long = B .long;
-        fits = type-fits (below place h x) L _ (B .found);
-        lies = B .lies;
-        front =
-            sym (take-take top from after t)
-            ∙ ap (take top) (B .front)
-            ∙ take-take top from mid t
-            ∙ A .front;
-        context = below-context place B;
-        wide = below-wide place B;
-      }
+  both-below place h x t B = both h (below place h x) B t (below-context place B) (below-wide place B)
 
 -- The words reach to the end of the second part.
 pub both-reach : {L : ℕ} {Γ Δ : Context} {p : ℕ} {e a b : Term} {term sub places : List ℕ} {depth k : ℕ} {work : List ℕ} {top from n more m : ℕ} {after places′ : List ℕ}

@@ -13,6 +13,7 @@ use term::refusal::Refusal;
 use term::walk::span;
 use term::word::Meaning;
 use term::word::classify;
+use term::word::wide;
 ghost use mathlib.Core.Path.{_≡_};
 ghost use Prim.Native.Nat.{_+_, _≤_};
 ghost use lib.ListN.{length};
@@ -312,12 +313,6 @@ fn narrow(place: usize) -> u16
     ensures { λ r. ⌜ r ≡ place ⌝ }
 {
     place as u16
-}
-
-fn wide(word: u16) -> usize
-    ensures { λ r. ⌜ r ≡ word ⌝ }
-{
-    word as usize
 }
 
 // The type of the subterm that `sub`, the end of `term`, begins with. `context` has the places of the annotations around it,

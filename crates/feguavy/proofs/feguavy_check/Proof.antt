@@ -1,4 +1,4 @@
--- `feguavy::feguavy_check` meets its contract: its numbers are those of what `check` answers, and the casts keep them, since a place and
+-- `feguavy_check` meets its contract: its numbers are those of what `check` answers, and the casts keep them, since a place and
 -- a type's length are at most 1,024.
 use borrow.Author.Needs.{needs}
 use denote.Ref.{now}

@@ -1,4 +1,4 @@
--- `feguavy::feguavy_run` meets its contract: its numbers are those of what `run` answers, and the cast keeps a refused place, which is
+-- `feguavy_run` meets its contract: its numbers are those of what `run` answers, and the cast keeps a refused place, which is
 -- at most 1,024. That it is safe is demand 3 of the calculus.
 use borrow.Author.Needs.{needs}
 use denote.Ref.{now}

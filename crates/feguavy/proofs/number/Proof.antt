@@ -1,4 +1,4 @@
--- `feguavy::number` meets its contract: each arm's number is that of its reason.
+-- `number` meets its contract: each arm's number is that of its reason.
 use borrow.Author.Needs.{needs}
 use mathlib.Core.Path.{refl}
 use Rattle.calculus.specs.Answer.{number}

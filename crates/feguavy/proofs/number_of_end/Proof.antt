@@ -1,4 +1,4 @@
--- `feguavy::number_of_end` meets its contract: each arm's number is that of its end.
+-- `number_of_end` meets its contract: each arm's number is that of its end.
 use borrow.Author.Needs.{needs}
 use mathlib.Core.Path.{refl}
 use Rattle.calculus.specs.Run.{end-number}

@@ -35,11 +35,11 @@ use Rattle.reduction.proofs.copying.copy.Reads as copy-reads
 use Rattle.reduction.proofs.rewriting.raise.Reads as raise-reads
 use Rattle.term.proofs.walk.span.Reads as span-reads
 use Rattle.term.proofs.word.classify.Reads as classify-reads
+use Rattle.term.proofs.word.wide.Reads as wide-reads
 use Rattle.typing.proofs.comparing.same.Reads as same-reads
 use Rattle.typing.proofs.inference.narrow.Reads as narrow-reads
 use Rattle.typing.proofs.inference.refused.Reads as refused-reads
 use Rattle.typing.proofs.inference.variable.Reads as variable-reads
-use Rattle.typing.proofs.inference.wide.Reads as wide-reads
 use Rattle.typing.proofs.moving.put_in.Reads as put-in-reads
 use Rattle.typing.proofs.moving.step_into.Reads as step-into-reads
 use Rattle.typing.proofs.moving.step_type.Reads as step-type-reads
