@@ -1,5 +1,6 @@
 -- Why the definitions of specs/ mean what they should: theorems that need not be read.
 pub mod Comparisons
+pub mod Stores
 pub mod Coding
 pub mod Meanings
 pub mod Says

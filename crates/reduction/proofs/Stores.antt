@@ -1,17 +1,13 @@
--- A run of stores: two runs, the second from where the first ends, are one run of both, since each store is the next of the one
--- run; no store changes what stands before the place where the run begins.
+-- A run of stores: no store changes what stands before the place where the run begins; and a list that is being copied is stored
+-- word by word, as the words so far and the next are one run.
 use Prim.Native.Nat.{ℕ, suc, _+_, _≤_, _<_}
-use mathlib.Core.List.{List, [], _∷_, _++_}
+use mathlib.Core.List.{List, [], _∷_}
 use mathlib.Core.Path.{_≡_, refl, _∙_}
-use native.Mathlib.Nat.{add-zero, add-suc, suc-add}
 use native.Mathlib.Numerals.{add-one}
 use native.Mathlib.Omega.{arith}
 use lib.ListN.{length, take, getD, set}
 use lib.Seq.{sets, take-set-le, take-suc, length-take-le}
-
-pub sets-append : (l : List ℕ) (at : ℕ) (e e₂ : List ℕ) → sets l at (e ++ e₂) ≡ sets (sets l at e) (at + length e) e₂
-sets-append l at [] e₂ = rw (add-zero at)
-sets-append l at (w ∷ e) e₂ = rw (add-suc at (length e), ← suc-add at (length e)) (sets-append (set l at w) (suc at) e e₂)
+use Rattle.calculus.proofs.Stores.{sets-append}
 
 pub take-sets : (n : ℕ) (l : List ℕ) (at : ℕ) (e : List ℕ) → n ≤ at → take n (sets l at e) ≡ take n l
 take-sets n l at [] h = refl

@@ -14,7 +14,8 @@ use Rattle.reduction.specs.declared.copying.Room.the-variants as room
 use Rattle.reduction.specs.declared.rewriting.Progress.{Progress}
 use Rattle.reduction.specs.declared.rewriting.Progress.the-variants as progress
 use Rattle.reduction.specs.Writing.{Written, Writes, Rewrites}
-use Rattle.reduction.proofs.Stores.{sets-append, take-sets}
+use Rattle.calculus.proofs.Stores.{sets-append}
+use Rattle.reduction.proofs.Stores.{take-sets}
 
 pub record Wrote (e out : List ℕ) (at next : ℕ) (after : List ℕ) : Type 0 where
   pub room : at + length e ≤ length out

@@ -4,15 +4,12 @@ use Prim.Native.Nat.{ℕ, suc, _+_, _-_, _≤_, _<_, min}
 use mathlib.Core.List.{List, [], _∷_, _++_}
 use mathlib.Core.Logic.{⊎-elim}
 use mathlib.Core.Path.{_≡_, refl, sym, ap, _∙_}
-use native.Mathlib.Nat.{add-zero, add-suc, suc-add, eq-or-lt-of-le}
+use native.Mathlib.Nat.{eq-or-lt-of-le}
 use native.Mathlib.Omega.{arith}
-use lib.ListN.{length, set, length-append}
+use lib.ListN.{length, length-append}
 use lib.Seq.{sets, length-sets, set-out}
+use Rattle.calculus.proofs.Stores.{sets-append}
 use Rattle.text.specs.Appending.{Appends, appends, behind}
-
-sets-append : (l : List ℕ) (at : ℕ) (bs cs : List ℕ) → sets l at (bs ++ cs) ≡ sets (sets l at bs) (at + length bs) cs
-sets-append l at [] cs = rw (add-zero at)
-sets-append l at (b ∷ bs) cs = rw (add-suc at (length bs), ← suc-add at (length bs)) (sets-append (set l at b) (suc at) bs cs)
 
 sets-out : (l : List ℕ) (at : ℕ) (bs : List ℕ) → length l ≤ at → sets l at bs ≡ l
 sets-out l at [] h = refl
