@@ -10,7 +10,8 @@ use lib.Dec.{ltb}
 use lib.ListN.{length}
 use Rattle.calculus.specs.Term.{Term, var, star, app, lam, pi, castup, castdown, mu, size}
 use Rattle.calculus.specs.Words.{emit, words, Codes}
-use Rattle.calculus.specs.Reading.{Meaning, a-variable, meaning, node, node₁, node₂}
+use Rattle.calculus.specs.Meaning.{Meaning, a-variable, meaning}
+use Rattle.calculus.specs.Scan.{node, node₁, node₂}
 use Rattle.calculus.proofs.Comparisons.{gt-leb}
 
 emit-before : (t : Term) (j k : List ℕ) → emit t (j ++ k) ≡ emit t j ++ k

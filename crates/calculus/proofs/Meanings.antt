@@ -8,7 +8,8 @@ use native.Mathlib.Nat.{add-sub-cancel-left, add-sub-of-le, add-zero, zero-add}
 use native.Mathlib.Omega.{arith}
 use lib.Dec.{T, ltb, nltb→le}
 use lib.ListN.{getD}
-use Rattle.calculus.specs.Reading.{Meaning, a-star, a-castdown, an-app, a-castup, a-lam, a-pi, a-mu, a-variable, nothing, meaning, means}
+use Rattle.calculus.specs.Meaning.{Meaning, a-star, a-castdown, an-app, a-castup, a-lam, a-pi, a-mu, a-variable, nothing, meaning}
+use Rattle.calculus.specs.Scan.{means}
 use Rattle.calculus.proofs.Comparisons.{le-leb, gt-leb}
 
 -- Document 01's table, from meanings to words; of the words that mean nothing, the least.

@@ -9,7 +9,7 @@ use lib.Seq.{take-at, drop-at}
 use Rattle.calculus.specs.Term.{Term, var, star, app, lam, pi, castup, castdown, mu, size}
 use Rattle.calculus.specs.Answer.{Answer, ok, refused}
 use Rattle.calculus.specs.Words.{emit, words, Readable}
-use Rattle.calculus.specs.Reading.{read}
+use Rattle.calculus.specs.Scan.{read}
 use Rattle.calculus.specs.Outcomes.{parts, nth-part, found-in, found, part}
 use Rattle.calculus.proofs.Coding.{emit-append, emit-length, words-length}
 use Rattle.calculus.proofs.ScanSound.{emits}

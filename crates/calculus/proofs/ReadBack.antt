@@ -11,7 +11,7 @@ use lib.ListN.{length}
 use Rattle.calculus.specs.Term.{Term, size}
 use Rattle.calculus.specs.Words.{words, Readable, Codes, longest, deepest}
 use Rattle.calculus.specs.Answer.{Reason, ok, refused, _>>=_, _>>_, require, number, length-not-allowed}
-use Rattle.calculus.specs.Reading.{Pending, scan, the-first, read}
+use Rattle.calculus.specs.Scan.{Pending, scan, the-first, read}
 use Rattle.calculus.proofs.Comparisons.{both, le-leb}
 use Rattle.calculus.proofs.Coding.{size-positive, words-length}
 use Rattle.calculus.proofs.Says.{Says, says-ok, says-bind, says-then, says-require, of-ok, of-refused}

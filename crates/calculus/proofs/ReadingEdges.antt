@@ -5,7 +5,8 @@ use mathlib.Core.List.{List, [], _∷_, _++_}
 use mathlib.Core.Path.{_≡_, refl}
 use lib.ListN.{replicate}
 use Rattle.calculus.specs.Answer.{Reason, refused, _>>=_, _>>_, require, length-not-allowed, no-meaning, list-ends, words-after, level-65, unbound}
-use Rattle.calculus.specs.Reading.{meaning, binds, means, bound, test, below, scan, read}
+use Rattle.calculus.specs.Meaning.{meaning, binds}
+use Rattle.calculus.specs.Scan.{means, bound, test, below, scan, read}
 
 pub record Edge : Type 0 where
   pub words : List ℕ

@@ -10,7 +10,7 @@ use lib.ListN.{length}
 use Rattle.calculus.specs.Term.{Term}
 use Rattle.calculus.specs.Answer.{Answer, ok, refused, _>>=_, _>>_, require, number}
 use Rattle.calculus.specs.Words.{longest}
-use Rattle.calculus.specs.Reading.{read}
+use Rattle.calculus.specs.Scan.{read}
 use Rattle.calculus.specs.Outcomes.{run-room, Ran, course, ran, run}
 use Rattle.calculus.specs.Runs.{Runs, work-refused, state-refused, unread, ended, Demand2-run, RunRefusals}
 use Rattle.calculus.proofs.Comparisons.{le-leb, gt-leb}

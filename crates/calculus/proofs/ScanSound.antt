@@ -12,7 +12,8 @@ use lib.ListN.{length}
 use Rattle.calculus.specs.Term.{Term, app, lam, pi, castup, mu}
 use Rattle.calculus.specs.Words.{emit, levels, Scoped}
 use Rattle.calculus.specs.Answer.{Reason, number, no-meaning, level-65, unbound}
-use Rattle.calculus.specs.Reading.{Meaning, a-star, a-castdown, an-app, a-castup, a-lam, a-pi, a-mu, a-variable, nothing, meaning, means, bound, binds, test, node, node₁, node₂, Pending, below, scan}
+use Rattle.calculus.specs.Meaning.{Meaning, a-star, a-castdown, an-app, a-castup, a-lam, a-pi, a-mu, a-variable, nothing, meaning, binds}
+use Rattle.calculus.specs.Scan.{means, bound, test, node, node₁, node₂, Pending, below, scan}
 use Rattle.calculus.proofs.Meanings.{word, word-meaning}
 use Rattle.calculus.proofs.Says.{By, Says, says-ok, says-refused, says-weaker, says-bind, says-then, says-require}
 

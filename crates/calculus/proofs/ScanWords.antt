@@ -11,7 +11,8 @@ use lib.Dec.{T, lt→ltb}
 use Rattle.calculus.specs.Term.{Term, var, star, app, lam, pi, castup, castdown, mu, size}
 use Rattle.calculus.specs.Words.{emit, levels, Scoped}
 use Rattle.calculus.specs.Answer.{Answer, ok, refused, _>>=_, _>>_, require}
-use Rattle.calculus.specs.Reading.{Meaning, a-star, a-castdown, an-app, a-castup, a-lam, a-pi, a-mu, a-variable, means, bound, binds, test, node, node₁, node₂, Pending, below, scan}
+use Rattle.calculus.specs.Meaning.{Meaning, a-star, a-castdown, an-app, a-castup, a-lam, a-pi, a-mu, a-variable, binds}
+use Rattle.calculus.specs.Scan.{means, bound, test, node, node₁, node₂, Pending, below, scan}
 use Rattle.calculus.proofs.Comparisons.{passed, le-leb}
 use Rattle.calculus.proofs.Meanings.{word, Indexed, meaning-word}
 use Rattle.calculus.proofs.ScanSound.{Fills}

@@ -9,7 +9,8 @@ use lib.Dec.{T, leb, eqb, leb→le, eqb→eq}
 use Rattle.calculus.specs.Term.{Term, size, raise, substitute}
 use Rattle.calculus.specs.Answer.{Reason, Answer, ok, refused, _>>=_, _>>_, require, number}
 use Rattle.calculus.specs.Words.{emit, words, longest}
-use Rattle.calculus.specs.Reading.{meaning, binds, means, bound, test, node₁, node₂, node, below, scan, the-first, read}
+use Rattle.calculus.specs.Meaning.{meaning, binds}
+use Rattle.calculus.specs.Scan.{means, bound, test, node₁, node₂, node, below, scan, the-first, read}
 use Rattle.calculus.specs.Rules.{_⟶_, env-empty}
 use Rattle.calculus.specs.Step.{Next, value, stuck, next, under, applied, cancelled, step}
 use Rattle.calculus.specs.Infer.{annotation, same, measure, product, stepped, infer}

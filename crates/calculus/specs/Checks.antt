@@ -7,7 +7,7 @@ use lib.ListN.{length, take}
 use Rattle.calculus.specs.Term.{Term, size}
 use Rattle.calculus.specs.Answer.{ok, refused, Reason, number, limit-not-allowed, work-short, output-short, over-limit}
 use Rattle.calculus.specs.Words.{words, Readable, Codes}
-use Rattle.calculus.specs.Reading.{read}
+use Rattle.calculus.specs.Scan.{read}
 use Rattle.calculus.specs.Rules.{_⊢_⦂_}
 use Rattle.calculus.specs.Limit.{_⊢⟨_⟩_⦂_}
 use Rattle.calculus.specs.Failing.{Fails}

@@ -2,10 +2,11 @@
 pub mod Term
 pub mod Answer
 pub mod Words
-pub mod Reading
+pub mod Meaning
 pub mod Rules
 pub mod Limit
 pub mod Failing
+pub mod Scan
 pub mod Step
 pub mod Infer
 pub mod Run

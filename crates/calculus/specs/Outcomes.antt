@@ -8,7 +8,7 @@ use lib.ListN.{length, take, drop, replicate}
 use Rattle.calculus.specs.Term.{Term, var, star, app, lam, pi, castup, castdown, mu, size}
 use Rattle.calculus.specs.Answer.{Answer, ok, refused, _>>=_, _>>_, require, number, limit-not-allowed, work-short, output-short}
 use Rattle.calculus.specs.Words.{words, longest}
-use Rattle.calculus.specs.Reading.{read}
+use Rattle.calculus.specs.Scan.{read}
 use Rattle.calculus.specs.Infer.{infer}
 use Rattle.calculus.specs.Run.{End, Ended, run-from}
 

@@ -7,7 +7,7 @@ use lib.ListN.{length}
 use Rattle.calculus.specs.Term.{Term, size}
 use Rattle.calculus.specs.Answer.{ok, refused, Reason, number, work-short, output-short}
 use Rattle.calculus.specs.Words.{words, Codes, longest}
-use Rattle.calculus.specs.Reading.{read}
+use Rattle.calculus.specs.Scan.{read}
 use Rattle.calculus.specs.Run.{State, End, Ends}
 use Rattle.calculus.specs.Outcomes.{run-room, begun, cleared, Ran, run}
 

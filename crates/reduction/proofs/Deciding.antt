@@ -9,7 +9,7 @@ use lib.ListN.{length, getD}
 use types.Run.{OneOf}
 use Rattle.calculus.specs.Term.{Term}
 use Rattle.calculus.specs.Words.{words}
-use Rattle.calculus.specs.Reading.{meaning}
+use Rattle.calculus.specs.Meaning.{meaning}
 use Rattle.term.specs.declared.word.Meaning.{Meaning}
 use Rattle.term.specs.Word.{meaning-of}
 use Rattle.term.proofs.Visits.{tag, Each}

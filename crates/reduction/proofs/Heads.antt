@@ -11,7 +11,7 @@ use lib.ListN.{length, getD, drop, List·getD-map}
 use lib.Seq.{drop-cons}
 use Rattle.calculus.specs.Term.{Term, var, star, app, lam, pi, castup, castdown, mu}
 use Rattle.calculus.specs.Words.{emit}
-use Rattle.calculus.specs.Reading.{meaning}
+use Rattle.calculus.specs.Meaning.{meaning}
 use Rattle.term.proofs.Words.{from-seven}
 use Rattle.reduction.specs.Stepping.{deeper, at-application, at-castdown, locate, heads}
 use Rattle.reduction.specs.declared.stepping.Redex.{Redex}

@@ -12,7 +12,7 @@ use native.Mathlib.Omega.{arith}
 use borrow.Author.Tests.{lt-ltb, le-ltb, eq-eqb, ne-eqb}
 use Rattle.calculus.specs.Term.{Term, var, star, app, lam, pi, castup, castdown, mu, raise, substitute}
 use Rattle.calculus.specs.Words.{emit, words, Scoped}
-use Rattle.calculus.specs.Reading.{binds, meaning}
+use Rattle.calculus.specs.Meaning.{binds, meaning}
 use Rattle.calculus.proofs.Coding.{emit-append}
 use Rattle.term.proofs.Words.{no-binds}
 use Rattle.reduction.specs.declared.rewriting.Change.the-variants as change

@@ -5,7 +5,8 @@ use mathlib.Core.List.{List}
 use mathlib.Core.Path.{_≡_, sym, ap, _∙_}
 use native.Mathlib.Omega.{arith}
 use lib.Dec.{ltb→lt}
-use Rattle.calculus.specs.Reading.{Meaning, a-variable, binds, bound, means, meaning}
+use Rattle.calculus.specs.Meaning.{Meaning, a-variable, binds, meaning}
+use Rattle.calculus.specs.Scan.{bound, means}
 use Rattle.calculus.proofs.Meanings.{word, word-meaning}
 use Rattle.term.proofs.Visits.{No-variable}
 use Rattle.term.proofs.Words.{variable}

@@ -10,7 +10,7 @@ use native.Mathlib.Nat.{add-zero}
 use lib.Dec.{ltb}
 use lib.ListN.{length, take, drop, getD}
 use lib.Seq.{drop-cons, drop-length, take-nil, drop-nil}
-use Rattle.calculus.specs.Reading.{binds, meaning}
+use Rattle.calculus.specs.Meaning.{binds, meaning}
 use Rattle.term.specs.Walk.{span}
 use Rattle.reduction.specs.Rewriting.{Below, raised, raised-word, rewritten}
 use Rattle.reduction.proofs.Passing.{depths-length}

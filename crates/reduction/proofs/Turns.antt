@@ -8,7 +8,7 @@ use native.Mathlib.Numerals.{add-one}
 use native.Mathlib.Omega.{arith}
 use lib.ListN.{length, drop, getD, set, drop-of-length-le}
 use lib.Seq.{drop-cons, drop-drop}
-use Rattle.calculus.specs.Reading.{binds, meaning}
+use Rattle.calculus.specs.Meaning.{binds, meaning}
 use Rattle.term.specs.Walk.{span}
 use Rattle.reduction.specs.Rewriting.{rewritten}
 use Rattle.reduction.proofs.Passing.{rewritten-none, rewritten-split, rewritten-leaf, rewritten-one, rewritten-two, span-leaf, span-one, span-two}

@@ -9,8 +9,8 @@ use native.Mathlib.Omega.{arith}
 use borrow.Author.Tests.{le-leb, lt-leb}
 use lib.Dec.{leb}
 use types.Run.{OneOf}
-use Rattle.calculus.specs.Reading as calculus
-use Rattle.calculus.specs.Reading.{a-star, a-castdown, an-app, a-castup, a-lam, a-pi, a-mu, a-variable, nothing, meaning}
+use Rattle.calculus.specs.Meaning as calculus
+use Rattle.calculus.specs.Meaning.{a-star, a-castdown, an-app, a-castup, a-lam, a-pi, a-mu, a-variable, nothing, meaning}
 use Rattle.term.specs.declared.word.Meaning.{Meaning}
 use Rattle.term.specs.declared.word.Meaning.the-variants.{Star, CastDown, Application, CastUp, Abstraction, Product, Recursion, Variable, Nothing}
 use Rattle.term.specs.Word.{meaning-of}

@@ -6,7 +6,7 @@ use mathlib.Core.Path.{_≡_}
 use lib.Dec.{ltb, eqb}
 use lib.ListN.{length}
 use Rattle.term.specs.Walk.{span}
-use Rattle.calculus.specs.Reading.{binds, meaning}
+use Rattle.calculus.specs.Meaning.{binds, meaning}
 use Rattle.reduction.specs.declared.rewriting.Change.{Change}
 use Rattle.reduction.specs.declared.rewriting.Change.the-variants as change
 use Rattle.reduction.specs.declared.rewriting.Shape.{Shape}

@@ -10,7 +10,8 @@ use lib.Seq.{take-all, drop-at, drop-drop}
 use Rattle.calculus.specs.Term.{Term, var, star, app, lam, pi, castup, castdown, mu, size}
 use Rattle.calculus.specs.Words.{emit, words}
 use Rattle.calculus.specs.Answer.{Reason, ok, refused}
-use Rattle.calculus.specs.Reading.{meaning, binds, read}
+use Rattle.calculus.specs.Meaning.{meaning, binds}
+use Rattle.calculus.specs.Scan.{read}
 use Rattle.calculus.specs.Outcomes.{absent, parts, nth-part, found-in, found}
 use Rattle.calculus.proofs.Coding.{emit-append, words-length}
 use Rattle.calculus.proofs.ScanSound.{emits}

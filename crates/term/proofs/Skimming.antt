@@ -7,7 +7,7 @@ use native.Mathlib.Numerals.{add-one}
 use lib.ListN.{length, getD, drop, drop-of-length-le}
 use lib.Seq.{drop-cons, drop-drop}
 use Rattle.calculus.specs.Answer.{ok, refused, _>>=_, list-ends}
-use Rattle.calculus.specs.Reading.{Pending, below}
+use Rattle.calculus.specs.Scan.{Pending, below}
 use Rattle.term.specs.Subterms.{skim, visited}
 
 pub skim-none : (ws : List ℕ) (p : ℕ) → skim ws [] p ≡ ok p

@@ -7,7 +7,7 @@ use native.Mathlib.Numerals.{add-one, unary-clauses}
 use native.Mathlib.Omega.{arith}
 use lib.ListN.{length, getD, set}
 use lib.Seq.{getD-set-same, getD-set-other}
-use Rattle.calculus.specs.Reading.{Pending}
+use Rattle.calculus.specs.Scan.{Pending}
 use Rattle.term.specs.Subterms.{pending}
 
 -- The subterms that the first `n` entries of two arrays stand for: the last entry comes next.

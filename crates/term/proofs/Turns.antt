@@ -9,7 +9,7 @@ use lib.Dec.{lit≤}
 use lib.ListN.{length, getD, set, drop, length-set}
 use Rattle.calculus.specs.Words.{deepest}
 use Rattle.calculus.specs.Answer.{Reason, ok, refused, _>>=_, list-ends}
-use Rattle.calculus.specs.Reading.{Pending, below}
+use Rattle.calculus.specs.Scan.{Pending, below}
 use Rattle.term.specs.Subterms.{pending, skim, visited}
 use Rattle.term.proofs.Skimming.{skim-none, skim-word, skim-end}
 use Rattle.term.proofs.Stacked.{stacked, stacked-length, stored, taken}

@@ -12,8 +12,9 @@ use lib.ListN.{getD}
 use types.Run.{OneOf}
 use denote.Enum.Declared.{tagOf}
 use Rattle.calculus.specs.Answer.{ok, refused, _>>=_, _>>_, require, no-meaning, level-65, unbound}
-use Rattle.calculus.specs.Reading as calculus
-use Rattle.calculus.specs.Reading.{a-variable, nothing, meaning, means, bound, binds, test, Pending}
+use Rattle.calculus.specs.Meaning as calculus
+use Rattle.calculus.specs.Meaning.{a-variable, nothing, meaning, binds}
+use Rattle.calculus.specs.Scan.{means, bound, test, Pending}
 use Rattle.calculus.proofs.Comparisons.{passed}
 use Rattle.term.specs.declared.word.Meaning.{Meaning}
 use Rattle.term.specs.declared.word.Meaning.the-variants.{Star, CastDown, Application, CastUp, Abstraction, Product, Recursion, Variable, Nothing}

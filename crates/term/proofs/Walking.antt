@@ -13,7 +13,8 @@ use lib.Seq.{drop-cons}
 use Rattle.calculus.specs.Term.{Term, var, star, app, lam, pi, castup, castdown, mu, size}
 use Rattle.calculus.specs.Words.{emit, words, Readable}
 use Rattle.calculus.specs.Answer.{Answer, Reason, ok, refused}
-use Rattle.calculus.specs.Reading.{meaning, binds, read}
+use Rattle.calculus.specs.Meaning.{meaning, binds}
+use Rattle.calculus.specs.Scan.{read}
 use Rattle.calculus.proofs.ReadBack.{read-sound}
 use Rattle.term.specs.Word.{arity}
 use Rattle.term.specs.Walk.{span}

@@ -11,7 +11,8 @@ use lib.ListN.{length, drop, length-drop}
 use Rattle.calculus.specs.Term.{Term}
 use Rattle.calculus.specs.Words.{longest, deepest}
 use Rattle.calculus.specs.Answer.{Reason, Answer, ok, refused, _>>=_, _>>_, require, length-not-allowed, words-after}
-use Rattle.calculus.specs.Reading.{meaning, binds, test, node, the-first, Pending, below, scan, read}
+use Rattle.calculus.specs.Meaning.{meaning, binds}
+use Rattle.calculus.specs.Scan.{test, node, the-first, Pending, below, scan, read}
 use Rattle.term.specs.Subterms.{outcome, pending, skim, visited}
 use Rattle.term.proofs.Skimming.{behind}
 

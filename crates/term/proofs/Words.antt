@@ -8,7 +8,7 @@ use native.Mathlib.Omega.{arith}
 use borrow.Author.Tests.{lt-ltb, le-ltb}
 use lib.Dec.{ltb, lit≤}
 use lib.ListN.{length, getD, List·getD-eq-default}
-use Rattle.calculus.specs.Reading.{Meaning, a-star, a-castdown, an-app, a-castup, a-lam, a-pi, a-mu, a-variable, nothing, binds, meaning}
+use Rattle.calculus.specs.Meaning.{Meaning, a-star, a-castdown, an-app, a-castup, a-lam, a-pi, a-mu, a-variable, nothing, binds, meaning}
 use Rattle.term.specs.Word.{arity, parts-table}
 
 -- The meanings of words 0–6.

@@ -2,7 +2,8 @@
 use Prim.Native.Nat.{ℕ, suc}
 use mathlib.Core.List.{List, [], _∷_, _++_, map}
 use Rattle.calculus.specs.Answer.{Answer, ok, refused, _>>=_, _>>_, list-ends}
-use Rattle.calculus.specs.Reading.{Pending, meaning, binds, test, below}
+use Rattle.calculus.specs.Meaning.{meaning, binds}
+use Rattle.calculus.specs.Scan.{Pending, test, below}
 use Rattle.term.specs.Reasons.{reason-of}
 use Rattle.term.specs.declared.reading.Reading.{Reading}
 use Rattle.term.specs.declared.reading.Reading.the-variants as reading

@@ -8,7 +8,7 @@ ghost use mathlib.Core.Path.{_≡_};
 ghost use Prim.Native.Nat.{ℕ, _≤_};
 ghost use mathlib.Core.List.{[], _∷_};
 ghost use Rattle.calculus.specs.Words.{deepest};
-ghost use Rattle.calculus.specs.Reading.{read};
+ghost use Rattle.calculus.specs.Scan.{read};
 ghost use Rattle.term.specs.Subterms.{outcome, pending, reading-of, skim, subterm-of, visit-of, visited};
 
 // A list is one closed term, or it is refused.

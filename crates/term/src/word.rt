@@ -1,6 +1,6 @@
 // What a word means.
 ghost use mathlib.Core.Path.{_≡_};
-ghost use Rattle.calculus.specs.Reading.{meaning};
+ghost use Rattle.calculus.specs.Meaning.{meaning};
 ghost use Rattle.term.specs.Word.{arity, meaning-of, parts-table};
 
 // Not in the order of the words throughout: as long as a meaning is the word itself, the compiler decides by a table of jumps,

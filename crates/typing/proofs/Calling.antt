@@ -12,7 +12,7 @@ use lib.Seq.{take-all, drop-at, drop-drop, take-take}
 use Rattle.calculus.specs.Term.{Term, app, pi, size}
 use Rattle.calculus.specs.Answer.{ok}
 use Rattle.calculus.specs.Words.{emit, words, Scoped, longest}
-use Rattle.calculus.specs.Reading.{meaning, a-pi}
+use Rattle.calculus.specs.Meaning.{meaning, a-pi}
 use Rattle.calculus.specs.Rules.{Context}
 use Rattle.calculus.specs.Infer.{infer}
 use Rattle.calculus.proofs.Coding.{emit-append, emit-length, words-length}

@@ -12,7 +12,7 @@ use lib.Seq.{drop-at, take-append-le, length-take-le}
 use Rattle.calculus.specs.Term.{Term, size}
 use Rattle.calculus.specs.Answer.{Answer, ok, refused}
 use Rattle.calculus.specs.Words.{words, levels, Readable, deepest}
-use Rattle.calculus.specs.Reading.{read}
+use Rattle.calculus.specs.Scan.{read}
 use Rattle.calculus.specs.Rules.{env-empty}
 use Rattle.calculus.specs.Infer.{infer}
 use Rattle.calculus.specs.Outcomes.{check-room, begun, cleared, check}

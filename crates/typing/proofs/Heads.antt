@@ -15,8 +15,8 @@ use types.Run.{OneOf, miss}
 use Rattle.calculus.specs.Term.{Term, var, star, app, lam, pi, castup, castdown, mu, size}
 use Rattle.calculus.specs.Answer.{Answer}
 use Rattle.calculus.specs.Words.{emit, words, Scoped, deepest}
-use Rattle.calculus.specs.Reading as calculus
-use Rattle.calculus.specs.Reading.{meaning, a-star, a-castdown, an-app, a-castup, a-lam, a-pi, a-mu, a-variable, nothing}
+use Rattle.calculus.specs.Meaning as calculus
+use Rattle.calculus.specs.Meaning.{meaning, a-star, a-castdown, an-app, a-castup, a-lam, a-pi, a-mu, a-variable, nothing}
 use Rattle.calculus.specs.Rules.{Context}
 use Rattle.calculus.specs.Infer.{infer}
 use Rattle.calculus.proofs.Coding.{size-positive}

@@ -7,7 +7,7 @@ use native.Mathlib.Omega.{arith}
 use borrow.Author.Needs.{needs}
 use lib.ListN.{length, getD}
 use Rattle.calculus.specs.Answer.{ok}
-use Rattle.calculus.specs.Reading.{read}
+use Rattle.calculus.specs.Scan.{read}
 use Rattle.term.specs.Subterms.{outcome, reading-of}
 use Rattle.term.proofs.Finding.{found-refused, inhabited, found-first, found-second, found-none, from-on, in-tail}
 use Rattle.term.proofs.Words.{two-at-most}

@@ -10,7 +10,8 @@ use borrow.Author.Needs.{needs}
 use lib.Dec.{T, eqb, lt→ltb}
 use types.Run.{OneOf}
 use Rattle.calculus.specs.Answer.{ok}
-use Rattle.calculus.specs.Reading.{means, bound, binds}
+use Rattle.calculus.specs.Meaning.{binds}
+use Rattle.calculus.specs.Scan.{means, bound}
 use Rattle.term.specs.declared.word.Meaning.{Meaning}
 use Rattle.term.specs.Word.{meaning-of}
 use Rattle.term.specs.Subterms.{pending, visited}

@@ -2,7 +2,7 @@
 use Prim.Native.Nat.{ℕ, suc, _≤_, zero-le}
 use mathlib.Core.Path.{_≡_, sym, ap}
 use native.Mathlib.Omega.{arith}
-use Rattle.calculus.specs.Reading.{meaning}
+use Rattle.calculus.specs.Meaning.{meaning}
 use Rattle.term.proofs.Words.{gap, variable, beyond}
 use Rattle.term.proofs.word.classify.Statement.{statement}
 use Rattle.term.proofs.word.classify.Tie as tie

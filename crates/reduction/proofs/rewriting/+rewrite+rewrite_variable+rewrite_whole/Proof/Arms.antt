@@ -6,7 +6,7 @@ use mathlib.Core.Logic.{_⊎_, ⊎-elim}
 use mathlib.Core.Path.{_≡_}
 use native.Mathlib.Omega.{arith}
 use denote.Enum.Declared.{tagOf}
-use Rattle.calculus.specs.Reading.{binds, meaning}
+use Rattle.calculus.specs.Meaning.{binds, meaning}
 use Rattle.term.proofs.Words.{no-binds}
 use Rattle.reduction.specs.declared.rewriting.Shape.{Shape}
 use Rattle.reduction.specs.declared.rewriting.Shape.the-variants as shape

@@ -5,7 +5,7 @@ use mathlib.Core.List.{List, [], _∷_}
 use mathlib.Core.Path.{_≡_}
 use native.Mathlib.Omega.{arith}
 use lib.ListN.{length, getD}
-use Rattle.calculus.specs.Reading.{binds, meaning}
+use Rattle.calculus.specs.Meaning.{binds, meaning}
 use Rattle.term.proofs.Words.{no-binds}
 use Rattle.reduction.specs.Rewriting.{changed-word}
 use Rattle.reduction.proofs.Changes.{unchanged}

@@ -10,7 +10,7 @@ use Rattle.calculus.specs.Term.{Term, star}
 use Rattle.calculus.specs.Answer as reason
 use Rattle.calculus.specs.Answer.{refused, _>>=_, _>>_, require}
 use Rattle.calculus.specs.Words.{emit, words}
-use Rattle.calculus.specs.Reading.{meaning, a-star}
+use Rattle.calculus.specs.Meaning.{meaning, a-star}
 use Rattle.calculus.specs.Rules.{Context}
 use Rattle.calculus.specs.Infer.{infer}
 use Rattle.calculus.proofs.Testing.{equal, unequal}

@@ -1,38 +1,14 @@
--- Reading a list of words (document 01, Words and Calls): the one term that it is, or the first refusal and its place.
+-- Reading a list of words as a function, left to right over the subterms still to come (document 01, Words and Calls). Believed only
+-- through the theorems that it reads the list of a term and refuses where `Misread` says.
 use Prim.Native.Nat.{ℕ, suc, _+_, _-_}
-use mathlib.Core.Bool.{Bool, true, false, cond, _&&_}
+use mathlib.Core.Bool.{Bool, true, false, _&&_}
 use mathlib.Core.List.{List, [], _∷_, _++_, map}
 use lib.Dec.{ltb, leb}
-use lib.ListN.{length, getD}
+use lib.ListN.{length}
 use Rattle.calculus.specs.Term.{Term, var, star, app, lam, pi, castup, castdown, mu}
 use Rattle.calculus.specs.Words.{longest, deepest}
 use Rattle.calculus.specs.Answer.{Answer, ok, refused, _>>=_, _>>_, require, length-not-allowed, no-meaning, list-ends, words-after, level-65, unbound}
-
--- What a word means.
-pub data Meaning : Type 0 where
-  a-star a-castdown an-app a-castup a-lam a-pi a-mu : Meaning
-  a-variable : ℕ → Meaning
-  nothing : Meaning
-
--- Words 0–6 by document 01's table; "words 7–15 and above 2,047 mean nothing"; 16–2,047 are variables, "index = word − 16".
-unfoldable pub meaning : ℕ → Meaning
-meaning w =
-    cond
-    (ltb w 16)
-    (getD (a-star ∷ a-castdown ∷ an-app ∷ a-castup ∷ a-lam ∷ a-pi ∷ a-mu ∷ []) w nothing)
-    (cond (ltb w 2048) (a-variable (w - 16)) nothing)
-
--- The parts that follow a node, in order: for each the number of variables that the node binds in it.
-unfoldable pub binds : Meaning → List ℕ
-binds a-star = []
-binds a-castdown = 0 ∷ []
-binds an-app = 0 ∷ 0 ∷ []
-binds a-castup = 0 ∷ 0 ∷ []
-binds a-lam = 0 ∷ 1 ∷ []
-binds a-pi = 0 ∷ 1 ∷ []
-binds a-mu = 0 ∷ 1 ∷ []
-binds (a-variable i) = []
-binds nothing = []
+use Rattle.calculus.specs.Meaning.{Meaning, a-star, a-castdown, an-app, a-castup, a-lam, a-pi, a-mu, a-variable, nothing, meaning, binds}
 
 -- A subterm still to come: how many levels it may have, and how many binders are around it.
 pub record Pending : Type 0 where

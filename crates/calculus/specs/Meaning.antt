@@ -1,0 +1,32 @@
+-- What a word means (document 01, Words): the table, read from the word.
+use Prim.Native.Nat.{ℕ, _-_}
+use mathlib.Core.Bool.{cond}
+use mathlib.Core.List.{List, [], _∷_}
+use lib.Dec.{ltb}
+use lib.ListN.{getD}
+
+-- What a word means.
+pub data Meaning : Type 0 where
+  a-star a-castdown an-app a-castup a-lam a-pi a-mu : Meaning
+  a-variable : ℕ → Meaning
+  nothing : Meaning
+
+-- Words 0–6 by document 01's table; "words 7–15 and above 2,047 mean nothing"; 16–2,047 are variables, "index = word − 16".
+unfoldable pub meaning : ℕ → Meaning
+meaning w =
+    cond
+    (ltb w 16)
+    (getD (a-star ∷ a-castdown ∷ an-app ∷ a-castup ∷ a-lam ∷ a-pi ∷ a-mu ∷ []) w nothing)
+    (cond (ltb w 2048) (a-variable (w - 16)) nothing)
+
+-- The parts that follow a node, in order: for each the number of variables that the node binds in it.
+unfoldable pub binds : Meaning → List ℕ
+binds a-star = []
+binds a-castdown = 0 ∷ []
+binds an-app = 0 ∷ 0 ∷ []
+binds a-castup = 0 ∷ 0 ∷ []
+binds a-lam = 0 ∷ 1 ∷ []
+binds a-pi = 0 ∷ 1 ∷ []
+binds a-mu = 0 ∷ 1 ∷ []
+binds (a-variable i) = []
+binds nothing = []
