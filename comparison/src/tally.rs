@@ -51,15 +51,15 @@ impl fmt::Display for Tally {
     }
 }
 
-/// Prints what was compared, or the first difference; the exit status of a program that compares.
+/// Prints what was compared, or why the comparison failed; the exit status of a program that compares.
 pub fn report(what: &str, seed: u64, compared: Result<Tally, String>) -> ExitCode {
     match compared {
         Ok(tally) => {
             print!("seed {seed}: {} {what} compared, no difference\n{tally}", tally.total());
             ExitCode::SUCCESS
         }
-        Err(difference) => {
-            println!("seed {seed}: {what} differ\n{difference}");
+        Err(why) => {
+            println!("seed {seed}: {what} failed: {why}");
             ExitCode::FAILURE
         }
     }

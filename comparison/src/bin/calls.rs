@@ -154,7 +154,7 @@ fn compare(seed: u64, count: usize, ours: Side, theirs: Side) -> Result<Tally, S
         if let Some(difference) = difference(&ours, &theirs) {
             let (work, result) = (case.work.to - case.work.from, case.result.to - case.result.from);
             return Err(format!(
-                "{}\non a working slice of {work} words and an output or state slice of {result}: {difference}\n\
+                "the outcomes of a call differ\n{}\non a working slice of {work} words and an output or state slice of {result}: {difference}\n\
                  `calls {seed} {}` ends with this call",
                 case.request.line(),
                 number + 1

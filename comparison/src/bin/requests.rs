@@ -55,7 +55,9 @@ fn compare(requests: &[Request], proved: &[String], reference: &[String]) -> Res
     for ((request, ours), theirs) in requests.iter().zip(proved).zip(reference) {
         match kind(theirs) {
             Some(kind) if ours == theirs => tally.add(request.call.verb(), kind),
-            _ => return Err(format!("{}\nproved:    {ours}\nreference: {theirs}", request.line())),
+            _ => {
+                return Err(format!("the answers to a request differ\n{}\nproved:    {ours}\nreference: {theirs}", request.line()))
+            }
         }
     }
     tally.covering(requests.len())
