@@ -1,0 +1,254 @@
+//! Random calls on lent slices of garbage, by the proved archive and by the reference: `calls SEED COUNT`. The answer and every word
+//! of every slice are compared. Exit status 1 at the first difference: the same seed and count lead to it again.
+
+use comparison::request::{Call, Request, Requests};
+use comparison::side::{asked, proved, reference, Answer, Side};
+use comparison::tally::{report, Tally};
+use reference::gen::Rng;
+use std::process::ExitCode;
+
+/// The most words that lie beside a lent slice.
+const BESIDE: usize = 16;
+/// A little above what a call can ask for.
+const LONGEST_SLICE: usize = 512 * 1024 + 64;
+
+/// A slice to lend, with words on both sides of it, so that a write beside it is seen as well.
+#[derive(Clone)]
+struct Lent {
+    words: Vec<u16>,
+    from: usize,
+    to: usize,
+}
+
+impl Lent {
+    fn slice(&mut self) -> &mut [u16] {
+        &mut self.words[self.from..self.to]
+    }
+}
+
+/// A call with its slices before it.
+#[derive(Clone)]
+struct Case {
+    request: Request,
+    work: Lent,
+    result: Lent,
+}
+
+/// Random cases without end, always the same for a seed.
+struct Cases {
+    requests: Requests,
+    garbage: Vec<u16>,
+}
+
+impl Cases {
+    fn of_seed(seed: u64) -> Cases {
+        let mut numbers = Rng::new(seed);
+        let garbage = (0..2 * LONGEST_SLICE).map(|_| numbers.next() as u16).collect();
+        Cases { requests: Requests::of_seed(seed), garbage }
+    }
+
+    fn numbers(&mut self) -> &mut Rng {
+        &mut self.requests.0.r
+    }
+
+    /// The generator's own numbers, or others: any limit to a little above the largest, and the edges.
+    fn call(&mut self, call: Call) -> Call {
+        let numbers = self.numbers();
+        if numbers.one_in(2) {
+            return call;
+        }
+        match call {
+            Call::Check { .. } => {
+                let edge = *numbers.pick(&[0, 1, 2, 1023, 1024, 1025, 1030, u32::MAX]);
+                Call::Check { limit: if numbers.one_in(2) { edge } else { numbers.below(1031) as u32 } }
+            }
+            Call::Run { .. } => {
+                // one of the two is small, since a run may have no end
+                let (small, any) = (numbers.below(40) as u32, *numbers.pick(&[0, 1, 39, 1000, u32::MAX - 1, u32::MAX]));
+                let (budget, allowance) = if numbers.one_in(2) { (small, any) } else { (any, small) };
+                Call::Run { budget, allowance }
+            }
+            Call::Part { .. } => Call::Part { number: *numbers.pick(&[0, 1, 2, 3, u32::MAX]) },
+        }
+    }
+
+    /// The generator's term, or one that was changed, or any words at all.
+    fn term(&mut self, term: Vec<u16>) -> Vec<u16> {
+        match self.numbers().below(8) {
+            0 => self.requests.0.mutated(term),
+            1 => self.requests.0.listed(),
+            2 => {
+                let length = *self.numbers().pick(&[0, 1, 2, 30, 1023, 1024, 1025, 5000]);
+                self.lent(length).slice().to_vec()
+            }
+            _ => term,
+        }
+    }
+
+    /// A length at what is asked or around it: mostly enough, since too short a slice ends a call at once.
+    fn length(&mut self, asked: usize) -> usize {
+        let numbers = self.numbers();
+        match numbers.below(24) {
+            0 => 0,
+            1 => asked.saturating_sub(1),
+            2 => numbers.below(asked.max(1)),
+            3..=9 => asked + 1,
+            10..=16 => asked + numbers.below(40),
+            _ => asked,
+        }
+    }
+
+    fn lent(&mut self, length: usize) -> Lent {
+        let (from, behind) = (self.numbers().below(BESIDE), self.numbers().below(BESIDE));
+        let at = self.requests.0.r.below(self.garbage.len() - (from + length + behind));
+        Lent { words: self.garbage[at..at + from + length + behind].to_vec(), from, to: from + length }
+    }
+}
+
+impl Iterator for Cases {
+    type Item = Case;
+
+    fn next(&mut self) -> Option<Case> {
+        let Request { call, term } = self.requests.next()?;
+        let request = Request { call: self.call(call), term: self.term(term) };
+        let (work, result) = asked(request.call);
+        let (work, result) = (self.length(work), self.length(result));
+        Some(Case { request, work: self.lent(work), result: self.lent(result) })
+    }
+}
+
+/// A call's answer, and its slices after it.
+struct Outcome {
+    answer: Answer,
+    after: Case,
+}
+
+fn outcome(side: Side, case: &Case) -> Outcome {
+    let mut after = case.clone();
+    let answer = side(after.request.call, &after.request.term, after.work.slice(), after.result.slice());
+    Outcome { answer, after }
+}
+
+/// Where two outcomes of a case first differ.
+fn difference(ours: &Outcome, theirs: &Outcome) -> Option<String> {
+    if ours.answer != theirs.answer {
+        return Some(format!("proved {:?}, reference {:?}", ours.answer, theirs.answer));
+    }
+    let (a, b) = (&ours.after, &theirs.after);
+    let slices = [
+        ("term", &a.request.term, &b.request.term, 0),
+        ("working slice", &a.work.words, &b.work.words, a.work.from),
+        ("output or state slice", &a.result.words, &b.result.words, a.result.from),
+    ];
+    slices.into_iter().filter(|(_, ours, theirs, _)| ours != theirs).find_map(|(name, ours, theirs, from)| {
+        let at = ours.iter().zip(theirs).position(|(a, b)| a != b)?;
+        Some(format!("word {} of the {name}: proved {}, reference {}", at as isize - from as isize, ours[at], theirs[at]))
+    })
+}
+
+/// Counts the calls, up to the first whose outcomes differ.
+fn compare(seed: u64, count: usize, ours: Side, theirs: Side) -> Result<Tally, String> {
+    let mut tally = Tally::default();
+    for (number, case) in Cases::of_seed(seed).take(count).enumerate() {
+        let (ours, theirs) = (outcome(ours, &case), outcome(theirs, &case));
+        if let Some(difference) = difference(&ours, &theirs) {
+            let (work, result) = (case.work.to - case.work.from, case.result.to - case.result.from);
+            return Err(format!(
+                "the outcomes of a call differ\n{}\non a working slice of {work} words and an output or state slice of {result}: {difference}\n\
+                 `calls {seed} {}` ends with this call",
+                case.request.line(),
+                number + 1
+            ));
+        }
+        tally.add(case.request.call.verb(), ours.answer.kind());
+    }
+    tally.covering(count)
+}
+
+fn main() -> ExitCode {
+    let mut arguments = std::env::args().skip(1);
+    let (Some(Ok(seed)), Some(Ok(count))) = (arguments.next().map(|a| a.parse()), arguments.next().map(|a| a.parse())) else {
+        eprintln!("calls SEED COUNT");
+        return ExitCode::from(2);
+    };
+    report("calls", seed, compare(seed, count, proved, reference))
+}
+
+#[cfg(test)]
+mod tests {
+    use super::*;
+
+    const COUNT: usize = 400;
+
+    fn noticed(wrong: Side) -> bool {
+        compare(3, COUNT, wrong, reference).is_err()
+    }
+
+    #[test]
+    fn the_same_side_twice_passes() {
+        assert_eq!(compare(3, COUNT, reference, reference).unwrap().total(), COUNT);
+    }
+
+    #[test]
+    fn a_wrong_place_is_noticed() {
+        assert!(noticed(|call, term, work, result| match reference(call, term, work, result) {
+            Answer::Refused { reason, place, left } => Answer::Refused { reason, place: place + 1, left },
+            answer => answer,
+        }));
+    }
+
+    #[test]
+    fn an_allowance_lowered_by_a_refusal_is_noticed() {
+        assert!(noticed(|call, term, work, result| match reference(call, term, work, result) {
+            Answer::Refused { reason, place, left } => Answer::Refused { reason, place, left: left / 2 },
+            answer => answer,
+        }));
+    }
+
+    #[test]
+    fn a_part_elsewhere_is_noticed() {
+        assert!(noticed(|call, term, work, result| match reference(call, term, work, result) {
+            Answer::Part { start, length } => Answer::Part { start: start / 2, length },
+            answer => answer,
+        }));
+    }
+
+    #[test]
+    fn a_working_slice_not_cleared_is_noticed() {
+        assert!(noticed(|call, term, work, result| {
+            let (asked, last) = (asked(call).0, work.get(asked(call).0.wrapping_sub(1)).copied());
+            let answer = reference(call, term, work, result);
+            if let (Answer::Typed { .. }, Some(last)) = (answer, last) {
+                work[asked - 1] = last;
+            }
+            answer
+        }));
+    }
+
+    #[test]
+    fn a_word_behind_the_type_is_noticed() {
+        assert!(noticed(|call, term, work, result| {
+            let answer = reference(call, term, work, result);
+            if let (Answer::Typed { length }, true) = (answer, !result.is_empty()) {
+                result[length.min(result.len() - 1)] ^= 1;
+            }
+            answer
+        }));
+    }
+
+    #[test]
+    fn any_word_beside_or_inside_is_noticed() {
+        let case =
+            Cases::of_seed(3).find(|c| c.work.from > 0 && c.work.to < c.work.words.len() && c.work.to > c.work.from).unwrap();
+        for at in [0, case.work.from, case.work.to - 1, case.work.to, case.work.words.len() - 1] {
+            let (right, mut wrong) = (outcome(reference, &case), outcome(reference, &case));
+            assert!(difference(&wrong, &right).is_none());
+            wrong.after.work.words[at] ^= 1;
+            assert!(difference(&wrong, &right).is_some());
+        }
+        let (right, mut wrong) = (outcome(reference, &case), outcome(reference, &case));
+        wrong.after.result.words.iter_mut().last().into_iter().for_each(|w| *w ^= 1);
+        wrong.after.request.term.iter_mut().last().into_iter().for_each(|w| *w ^= 1);
+        assert!(difference(&wrong, &right).is_some());
+    }
+}

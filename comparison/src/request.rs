@@ -1,0 +1,98 @@
+//! Requests of the line protocol that both sides answer, from the reference's generator.
+
+use reference::gen::Gen;
+
+/// What is asked of a term.
+#[derive(Clone, Copy, Debug, PartialEq)]
+pub enum Call {
+    Check { limit: u32 },
+    Run { budget: u32, allowance: u32 },
+    Part { number: u32 },
+}
+
+impl Call {
+    /// The verbs of the calls, in their order.
+    pub const VERBS: [&'static str; 3] = ["check", "run", "part"];
+
+    pub fn verb(&self) -> &'static str {
+        match self {
+            Call::Check { .. } => "check",
+            Call::Run { .. } => "run",
+            Call::Part { .. } => "part",
+        }
+    }
+}
+
+#[derive(Clone, Debug)]
+pub struct Request {
+    pub call: Call,
+    pub term: Vec<u16>,
+}
+
+impl Request {
+    /// The request of a line; none where the verb is another.
+    pub fn of(line: &str) -> Option<Request> {
+        let (front, words) = line.split_once('|')?;
+        let mut fields = front.split_whitespace();
+        let verb = fields.next()?;
+        let numbers: Vec<u32> = fields.map(|n| n.parse().ok()).collect::<Option<_>>()?;
+        let call = match (verb, &numbers[..]) {
+            ("check", &[limit]) => Call::Check { limit },
+            ("run", &[budget, allowance]) => Call::Run { budget, allowance },
+            ("part", &[number]) => Call::Part { number },
+            _ => return None,
+        };
+        Some(Request { call, term: words.split_whitespace().map(|w| w.parse().ok()).collect::<Option<_>>()? })
+    }
+
+    /// The line of a request.
+    pub fn line(&self) -> String {
+        let front = match self.call {
+            Call::Check { limit } => format!("check {limit} |"),
+            Call::Run { budget, allowance } => format!("run {budget} {allowance} |"),
+            Call::Part { number } => format!("part {number} |"),
+        };
+        front + &self.term.iter().map(|w| format!(" {w}")).collect::<String>()
+    }
+}
+
+/// Random requests without end, always the same for a seed. The generator has other verbs too, which are passed over.
+pub struct Requests(pub Gen);
+
+impl Requests {
+    pub fn of_seed(seed: u64) -> Requests {
+        Requests(Gen::new(seed))
+    }
+}
+
+impl Iterator for Requests {
+    type Item = Request;
+
+    fn next(&mut self) -> Option<Request> {
+        loop {
+            let request = Request::of(&self.0.line());
+            if request.is_some() {
+                return request;
+            }
+        }
+    }
+}
+
+#[cfg(test)]
+mod tests {
+    use super::*;
+
+    #[test]
+    fn a_line_and_back() {
+        for line in ["check 32 | 4 0 16", "run 7 4294967295 |", "part 2 | 2 0 0"] {
+            assert_eq!(Request::of(line).unwrap().line(), line);
+        }
+    }
+
+    #[test]
+    fn other_lines_are_no_requests() {
+        for line in ["", "next | 0", "kinds 1 1 | 0", "check 1 2 | 0", "check | 0", "check 1 | 65536", "check 1"] {
+            assert!(Request::of(line).is_none(), "{line}");
+        }
+    }
+}

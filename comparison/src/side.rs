@@ -1,0 +1,104 @@
+//! The calls of both sides in one shape. The reference's are those of document 01: what it does under its options for document 02
+//! goes in here when the proved code does the same.
+
+use crate::request::Call;
+use feguavy::Checked;
+use reference::check::Answer as Verdict;
+
+/// What a call answers, by document 01's numbers.
+#[derive(Clone, Copy, Debug, PartialEq)]
+pub enum Answer {
+    Typed {
+        length: usize,
+    },
+    /// `left` is the allowance that a run leaves; a check has none, which is 0 here.
+    Refused {
+        reason: u32,
+        place: usize,
+        left: u32,
+    },
+    Ended {
+        end: u32,
+        steps: u32,
+        left: u32,
+    },
+    Part {
+        start: usize,
+        length: usize,
+    },
+}
+
+impl Answer {
+    /// What kind of answer it is: a name and document 01's number, or 0.
+    pub fn kind(&self) -> (&'static str, u32) {
+        match *self {
+            Answer::Typed { .. } => ("typed", 0),
+            Answer::Refused { reason, .. } => ("refused", reason),
+            Answer::Ended { end, .. } => ("ended", end),
+            Answer::Part { length: 0, .. } => ("no part", 0),
+            Answer::Part { .. } => ("part", 0),
+        }
+    }
+}
+
+/// A call on a term, with a working slice and an output or state slice to lend.
+pub type Side = fn(Call, &[u16], &mut [u16], &mut [u16]) -> Answer;
+
+/// The words asked of the two slices of a call. Where the limit is not allowed, nothing is asked: the largest's will do.
+pub fn asked(call: Call) -> (usize, usize) {
+    match call {
+        Call::Check { limit } => {
+            let limit = limit.min(feguavy::LARGEST_LIMIT);
+            (feguavy::check_work(limit), limit as usize)
+        }
+        Call::Run { .. } => (feguavy::RUN_WORK, feguavy::LONGEST),
+        Call::Part { .. } => (0, 0),
+    }
+}
+
+/// The proved code.
+pub fn proved(call: Call, term: &[u16], work: &mut [u16], result: &mut [u16]) -> Answer {
+    let refused = |r: feguavy::Refusal, left| Answer::Refused { reason: r.reason.number(), place: r.place, left };
+    match call {
+        Call::Check { limit } => match feguavy::check(term, limit, work, result) {
+            Checked::Typed(length) => Answer::Typed { length },
+            Checked::Refused(r) => refused(r, 0),
+        },
+        Call::Run { budget, allowance } => {
+            let ran = feguavy::run(term, budget, work, result, allowance);
+            match ran.answer {
+                Ok(ended) => Answer::Ended { end: ended.end.number(), steps: ended.steps, left: ran.allowance },
+                Err(r) => refused(r, ran.allowance),
+            }
+        }
+        Call::Part { number } => {
+            let part = feguavy::part(term, number);
+            Answer::Part { start: start(part, term), length: part.len() }
+        }
+    }
+}
+
+/// The reference, which takes each step of a run.
+pub fn reference(call: Call, term: &[u16], work: &mut [u16], result: &mut [u16]) -> Answer {
+    let refused = |r: reference::read::Refusal, left| Answer::Refused { reason: r.reason as u32, place: r.place as usize, left };
+    match call {
+        Call::Check { limit } => match reference::check::check(term, limit, work, result) {
+            Verdict::Typed(length) => Answer::Typed { length },
+            Verdict::Refused(r) => refused(r, 0),
+        },
+        Call::Run { budget, allowance } => match reference::run::run(term, budget, work, result, allowance) {
+            Ok(ran) => Answer::Ended { end: ran.end as u32, steps: ran.steps, left: ran.left },
+            Err(r) => refused(r, allowance),
+        },
+        Call::Part { number } => match reference::read::part(term, number) {
+            // its empty part is none of the term's words, and stands nowhere
+            [] => Answer::Part { start: 0, length: 0 },
+            part => Answer::Part { start: start(part, term), length: part.len() },
+        },
+    }
+}
+
+/// Where a part of a term begins.
+fn start(part: &[u16], term: &[u16]) -> usize {
+    (part.as_ptr() as usize - term.as_ptr() as usize) / size_of::<u16>()
+}
