@@ -2,7 +2,7 @@
  *
  * A term is a list of 16-bit words in prefix order (docs/FORMAT.md). The caller lends every slice, as a pointer and a number of
  * words; nothing is kept between calls, so calls on different slices may run at the same time. Slices lent to one call must not
- * overlap. A pointer to 0 words is not read, but must not be null.
+ * overlap. A pointer to 0 words is not read, but must not be null: what is proved of a call is about slices that lie somewhere.
  */
 #ifndef FEGUAVY_H
 #define FEGUAVY_H
@@ -14,6 +14,11 @@
 extern "C" {
 #endif
 
+#define FEGUAVY_VERSION_MAJOR 1
+#define FEGUAVY_VERSION_MINOR 0
+#define FEGUAVY_VERSION_PATCH 0
+#define FEGUAVY_VERSION "1.0.0"
+
 /* The largest limit, the longest term or state, and the working words of a run. */
 #define FEGUAVY_LARGEST_LIMIT 1024
 #define FEGUAVY_LONGEST 1024
@@ -21,8 +26,8 @@ extern "C" {
 /* The working words of a check at the limit L. */
 #define FEGUAVY_CHECK_WORK(L) (512 * (size_t)(L))
 
-/* Refusals. */
-enum {
+/* Refusals, by document 01's numbers. */
+enum feguavy_refusal {
     FEGUAVY_LIMIT_NOT_ALLOWED = 1,   /* the limit is 0 or above 1,024 */
     FEGUAVY_WORK_SHORT = 2,          /* the working slice is too short */
     FEGUAVY_OUTPUT_SHORT = 3,        /* the output or state slice is too short */
@@ -41,8 +46,8 @@ enum {
     FEGUAVY_OVER_LIMIT = 16          /* a type longer than the limit */
 };
 
-/* Ends of a run. */
-enum {
+/* Ends of a run, by document 01's numbers. */
+enum feguavy_end {
     FEGUAVY_VALUE = 1, /* the state is a value */
     FEGUAVY_SPENT = 2, /* every step granted was taken */
     FEGUAVY_STUCK = 3, /* the state is no value and has no next state */
@@ -78,6 +83,52 @@ feguavy_ran feguavy_run(const uint16_t *term, size_t term_len, uint32_t budget, 
 
 /* The first or second part of a closed term, as a place in the caller's own words. */
 feguavy_found feguavy_part(const uint16_t *term, size_t term_len, uint32_t number);
+
+/* The length of the term that `words` begins with, or `count` where the list ends inside the term: how long a state is. */
+static inline size_t feguavy_length(const uint16_t *words, size_t count) {
+    static const uint8_t parts[7] = {0, 1, 2, 2, 2, 2, 2};
+    size_t at = 0, left = 1;
+    while (at < count && left != 0) {
+        left += words[at] < 7 ? parts[words[at]] : 0u;
+        left -= 1;
+        at += 1;
+    }
+    return at;
+}
+
+/* What a refusal is, in words; a text for any number. */
+static inline const char *feguavy_refusal_text(uint32_t refusal) {
+    switch (refusal) {
+    case FEGUAVY_LIMIT_NOT_ALLOWED: return "a limit of 0 or above 1,024";
+    case FEGUAVY_WORK_SHORT: return "a working slice that is too short";
+    case FEGUAVY_OUTPUT_SHORT: return "an output or state slice that is too short";
+    case FEGUAVY_LENGTH_NOT_ALLOWED: return "a term of 0 or over 1,024 words";
+    case FEGUAVY_NO_MEANING: return "a word without meaning";
+    case FEGUAVY_LIST_ENDS: return "a list that ends inside the term";
+    case FEGUAVY_WORDS_AFTER: return "words after the term";
+    case FEGUAVY_LEVEL_65: return "a node at level 65";
+    case FEGUAVY_UNBOUND: return "a variable outside all its binders";
+    case FEGUAVY_NOT_STAR: return "a part whose type is not star";
+    case FEGUAVY_NOT_PRODUCT: return "a function whose type is no product";
+    case FEGUAVY_WRONG_ARGUMENT: return "an argument of another type than the domain";
+    case FEGUAVY_NO_STEP: return "a cast whose type does not step";
+    case FEGUAVY_WRONG_CAST: return "an up cast whose stepped annotation is not its body's type";
+    case FEGUAVY_WRONG_RECURSION: return "a recursion whose body has another type than its annotation";
+    case FEGUAVY_OVER_LIMIT: return "a type longer than the limit";
+    default: return "no refusal";
+    }
+}
+
+/* How a run ended, in words; a text for any number. */
+static inline const char *feguavy_end_text(uint32_t end) {
+    switch (end) {
+    case FEGUAVY_VALUE: return "at a value";
+    case FEGUAVY_SPENT: return "with every step granted taken";
+    case FEGUAVY_STUCK: return "stuck";
+    case FEGUAVY_LONG: return "before a state of over 1,024 words";
+    default: return "no end";
+    }
+}
 
 #ifdef __cplusplus
 }

@@ -1,0 +1,96 @@
+//! The library for C: installed below a folder of its own, it serves a C and a C++ program built outside the repository.
+
+use feguavy::{End, Reason};
+use std::fs::{create_dir_all, remove_dir_all, write};
+use std::path::{Path, PathBuf};
+use std::process::Command;
+
+/// Prints what the header says of every number, and the length of the term that a list begins with.
+const TEXTS: &str = r#"
+#include <feguavy.h>
+#include <stdio.h>
+int main(void) {
+    const uint16_t words[7] = {2, 4, 0, 16, 0, 7, 7};
+    const enum feguavy_refusal last = FEGUAVY_OVER_LIMIT;
+    const enum feguavy_end fourth = FEGUAVY_LONG;
+    for (uint32_t n = 0; n <= (uint32_t)last + 1; n++) printf("%s\n", feguavy_refusal_text(n));
+    for (uint32_t n = 0; n <= (uint32_t)fourth + 1; n++) printf("%s\n", feguavy_end_text(n));
+    for (size_t count = 0; count <= 7; count++) printf("%zu ", feguavy_length(words, count));
+    printf("\n%s %d.%d.%d\n", FEGUAVY_VERSION, FEGUAVY_VERSION_MAJOR, FEGUAVY_VERSION_MINOR, FEGUAVY_VERSION_PATCH);
+    return 0;
+}
+"#;
+
+fn root() -> PathBuf {
+    Path::new(env!("CARGO_MANIFEST_DIR")).join("..")
+}
+
+/// A fresh folder outside the repository, with the library installed in it.
+fn installed(name: &str) -> PathBuf {
+    let folder = std::env::temp_dir().join(format!("feguavy-{name}-{}", std::process::id()));
+    _ = remove_dir_all(&folder);
+    create_dir_all(&folder).unwrap();
+    said(Command::new(root().join("scripts/install")).arg(&folder));
+    folder
+}
+
+/// What a command prints; it must end with status 0.
+fn said(command: &mut Command) -> String {
+    let output = command.output().unwrap_or_else(|e| panic!("{command:?}: {e}"));
+    assert!(output.status.success(), "{command:?}: {}", String::from_utf8_lossy(&output.stderr));
+    String::from_utf8(output.stdout).unwrap()
+}
+
+/// Builds the source with the flags of the installed pkg-config file, warnings being errors.
+fn build(folder: &Path, compiler: &str, language: &[&str], source: &Path) -> PathBuf {
+    let found = said(
+        Command::new("pkg-config").env("PKG_CONFIG_PATH", folder.join("lib/pkgconfig")).args(["--cflags", "--libs", "feguavy"]),
+    );
+    let (cflags, libs): (Vec<&str>, Vec<&str>) = found.split_whitespace().partition(|flag| flag.starts_with("-I"));
+    let program = folder.join(format!("program-{compiler}"));
+    let mut command = Command::new(compiler);
+    command.current_dir(folder).args(language).args(["-Wall", "-Wextra", "-Werror", "-pedantic"]).args(cflags);
+    said(command.arg(source).args(["-x", "none"]).args(libs).arg("-o").arg(&program));
+    program
+}
+
+const LANGUAGES: [(&str, &[&str]); 2] = [("cc", &["-std=c99", "-x", "c"]), ("c++", &["-std=c++11", "-x", "c++"])];
+
+#[test]
+fn texts_and_lengths() {
+    let folder = installed("texts");
+    let source = folder.join("texts.c");
+    write(&source, TEXTS).unwrap();
+    let reasons = Reason::ALL.iter().map(|reason| reason.to_string());
+    let ends = [End::Value, End::Spent, End::Stuck, End::Long].iter().map(|end| end.to_string());
+    let none = |text: &str| std::iter::once(text.to_string());
+    let mut expected: Vec<String> = none("no refusal").chain(reasons).chain(none("no refusal")).collect();
+    expected.extend(none("no end").chain(ends).chain(none("no end")));
+    expected.push("0 1 2 3 4 5 5 5 ".to_string());
+    expected.push(format!("{0} {0}", env!("CARGO_PKG_VERSION")));
+    for (compiler, language) in LANGUAGES {
+        let lines = said(&mut Command::new(build(&folder, compiler, language, &source)));
+        assert_eq!(lines.lines().collect::<Vec<_>>(), expected, "{compiler}");
+    }
+    remove_dir_all(&folder).unwrap();
+}
+
+#[test]
+fn example() {
+    let folder = installed("example");
+    let source = root().join("host/examples/type.c").canonicalize().unwrap();
+    for (compiler, language) in LANGUAGES {
+        let program = build(&folder, compiler, language, &source);
+        let answer = |words: &str| {
+            let output = Command::new(&program).args(words.split_whitespace()).output().unwrap();
+            (output.status.code().unwrap(), String::from_utf8(output.stdout).unwrap())
+        };
+        assert_eq!(answer("4 0 16"), (0, "type: 5 0 0\nrun: ended at a value after 0 steps\nstate: 4 0 16\n".to_string()));
+        assert_eq!(answer("1 0"), (1, "refused: a cast whose type does not step (refusal 13, place 0)\n".to_string()));
+        assert_eq!(answer(&"0 ".repeat(1025)), (1, "refused: a term of 0 or over 1,024 words (refusal 4, place 0)\n".to_string()));
+        for no_word in ["x", "+1", "-1", "65536", "1.0", "0x1", "99999999999999999999999"] {
+            assert_eq!(answer(no_word), (2, String::new()), "{no_word}");
+        }
+    }
+    remove_dir_all(&folder).unwrap();
+}
