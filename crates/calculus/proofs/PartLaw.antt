@@ -11,8 +11,7 @@ use Rattle.calculus.specs.Answer.{Answer, ok, refused}
 use Rattle.calculus.specs.Words.{emit, words, Readable}
 use Rattle.calculus.specs.Scan.{read}
 use Rattle.calculus.specs.Outcomes.{parts, nth-part, found-in, found, part}
-use Rattle.calculus.proofs.Coding.{emit-append, emit-length, words-length}
-use Rattle.calculus.proofs.ScanSound.{emits}
+use Rattle.calculus.proofs.Coding.{emits, emit-append, emit-length, words-length}
 use Rattle.calculus.proofs.ReadBack.{read-words, read-sound}
 
 -- The words of the k-th of a list, counted from 1, and none where there is none.

@@ -13,8 +13,7 @@ use Rattle.calculus.specs.Answer.{Reason, ok, refused}
 use Rattle.calculus.specs.Meaning.{meaning, binds}
 use Rattle.calculus.specs.Scan.{read}
 use Rattle.calculus.specs.Outcomes.{absent, parts, nth-part, found-in, found}
-use Rattle.calculus.proofs.Coding.{emit-append, words-length}
-use Rattle.calculus.proofs.ScanSound.{emits}
+use Rattle.calculus.proofs.Coding.{emits, emit-append, words-length}
 use Rattle.calculus.proofs.ReadBack.{read-sound}
 use Rattle.term.specs.Word.{arity}
 use Rattle.term.specs.Walk.{span}
