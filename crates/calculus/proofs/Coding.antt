@@ -15,11 +15,6 @@ use Rattle.calculus.specs.Scan.{node, node₁, node₂}
 use Rattle.calculus.specs.Reads.{PrefixFree}
 use Rattle.calculus.proofs.Comparisons.{gt-leb}
 
--- The words of terms, one after another.
-unfoldable pub emits : List Term → List ℕ
-emits [] = []
-emits (t ∷ ts) = emit t (emits ts)
-
 emit-before : (t : Term) (j k : List ℕ) → emit t (j ++ k) ≡ emit t j ++ k
 unfolding emit
 emit-before (var i) j k = refl

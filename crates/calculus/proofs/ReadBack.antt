@@ -50,10 +50,10 @@ misread-refused {ws} (word-over {t} {w} {rest} s b) =
     scanned ws s ∙ rw (b .written, through b (w ∷ rest) [] 0, zero-add (size t)) refl
 
 -- What a list is: the words of a readable term, or misread.
-abbrev Read : List ℕ → Type 0
+abbrev pub Read : List ℕ → Type 0
 Read ws = ((t : Term) × Codes ws t) ⊎ ((r : Reason) × (p : ℕ) × Misread ws r p)
 
-coded-or-misread : (ws : List ℕ) → Read ws
+pub coded-or-misread : (ws : List ℕ) → Read ws
 unfolding words
 coded-or-misread ws = by-length (Dec·and (decLe 1 (length ws)) (decLe (length ws) longest))
   where

@@ -13,6 +13,7 @@ pub mod Infer
 pub mod Run
 pub mod Outcomes
 pub mod Reads
+pub mod Parts
 pub mod Checks
 pub mod Runs
 pub mod Safety
