@@ -2,8 +2,8 @@
 -- are decided one after the other. A word that means something is the word of its meaning, so the node made of the parts has it.
 use Prim.Native.Nat.{ℕ, zero, suc, _+_, _<_, max}
 use mathlib.Core.List.{List, [], _∷_}
-use mathlib.Core.Logic.{_⊎_, inl, inr}
-use mathlib.Core.Path.{_≡_, refl, sym, ap, ap₂, _∙_}
+use mathlib.Core.Logic.{_≢_, _⊎_, inl, inr}
+use mathlib.Core.Path.{_≡_, refl, sym, ap, ap₂, _∙_, subst}
 use native.Mathlib.Decide.{decLe}
 use native.Mathlib.Nat.{add-zero}
 use native.Mathlib.Numerals.{add-one}
@@ -99,14 +99,17 @@ module _ (room binders p w : ℕ) (ws : List ℕ) (below : (b q : ℕ) (vs : Lis
       on (no n) = inr (_, _, outside {binders = binders} h (omega arith))
   told-word nothing h = inr (_, _, meaningless h)
 
+something : (m : Meaning) → T (means m) → m ≢ nothing
+unfolding means
+something m t e = subst (λ n. T (means n)) e t
+
 -- Where no level is left, no term fits.
 told-deep : (binders p w : ℕ) (ws : List ℕ) → Told zero binders p (w ∷ ws)
-unfolding means
 told-deep binders p w ws = on (sorted (meaning w))
   where
     on : (meaning w ≡ nothing) ⊎ T (means (meaning w)) → Told zero binders p (w ∷ ws)
     on (inl e) = inr (_, _, meaningless e)
-    on (inr t) = inr (_, _, too-deep {w = w} λ e. rw e at t)
+    on (inr t) = inr (_, _, too-deep (something (meaning w) t))
 
 pub told : (room binders p : ℕ) (ws : List ℕ) → Told room binders p ws
 told zero binders p [] = inr (_, _, no-word)
