@@ -1,7 +1,7 @@
 -- The part lookup. What `Finds` says is what `found` answers, by computing; and `Finds` says something of every list and number, since
 -- a list is a readable term's or misread, and a term has the part or not. In the words of a term each part stands between the words
 -- before it and those behind it, which gives the words handed back.
-use Prim.Native.Nat.{ℕ, zero, suc, _+_, _≤_, _<_}
+use Prim.Native.Nat.{ℕ, zero, suc, _+_, _≤_}
 use mathlib.Core.List.{List, [], _∷_, _++_, append-nil}
 use mathlib.Core.Logic.{_⊎_, inl, inr}
 use mathlib.Core.Path.{_≡_, refl, sym, ap, _∙_, subst}
@@ -14,7 +14,7 @@ use Rattle.calculus.specs.Words.{emit, words, first-part, second-part, C
 use Rattle.calculus.specs.Scan.{read}
 use Rattle.calculus.specs.Outcomes.{Found, absent, parts, nth-part, found-in, found, part}
 use Rattle.calculus.specs.Parts.{PartAt, castdown-1, app-1, app-2, castup-1, castup-2, lam-1, lam-2, pi-1, pi-2, mu-1, mu-2, Finds, the-part, no-such-part, no-closed-term, Lookup, PartWords, FoundWithin}
-use Rattle.calculus.proofs.Coding.{emit-append, words-length}
+use Rattle.calculus.proofs.Coding.{emit-append, size-positive, words-length}
 use Rattle.calculus.proofs.ReadBack.{Read, coded-or-misread, codes-read, coded-not-misread, read-sound}
 
 -- A part is found in the list of parts,
@@ -32,56 +32,33 @@ nth-found pi-2 = refl
 nth-found mu-1 = refl
 nth-found mu-2 = refl
 
--- and its number counts the parts from 1; no other number finds one.
-numbered : {t e : Term} {k p : ℕ} → PartAt t k e p → (1 ≤ k) × (k ≤ length (parts t))
-unfolding parts
-numbered castdown-1 = (omega arith, omega arith)
-numbered app-1 = (omega arith, omega arith)
-numbered app-2 = (omega arith, omega arith)
-numbered castup-1 = (omega arith, omega arith)
-numbered castup-2 = (omega arith, omega arith)
-numbered lam-1 = (omega arith, omega arith)
-numbered lam-2 = (omega arith, omega arith)
-numbered pi-1 = (omega arith, omega arith)
-numbered pi-2 = (omega arith, omega arith)
-numbered mu-1 = (omega arith, omega arith)
-numbered mu-2 = (omega arith, omega arith)
-
-pub nth-none : (es : List Term) (k place : ℕ) → (1 ≤ k → length es < k) → nth-part es k place ≡ absent
-unfolding nth-part
-nth-none [] k place h = refl
-nth-none (e ∷ es) zero place h = refl
-nth-none (e ∷ es) (suc zero) place h = absurd (omega (arith, h (omega arith)))
-nth-none (e ∷ es) (suc (suc k)) place h = nth-none es (suc k) (place + size e) λ _. omega (arith, h (omega arith))
-
--- A term has a part of a number or not.
+-- and a term has a part of a number or finds none.
 abbrev Has : Term → ℕ → Type 0
-Has t k = ((e : Term) × (p : ℕ) × PartAt t k e p) ⊎ (1 ≤ k → length (parts t) < k)
+Has t k = ((e : Term) × (p : ℕ) × PartAt t k e p) ⊎ (nth-part (parts t) k 1 ≡ absent)
 
-no-part : {t : Term} (k : ℕ) → length (parts t) ≡ 0 → Has t k
-no-part k n = inr λ h. omega (arith, n)
+one-part : {t e : Term} {p : ℕ} (k : ℕ) → parts t ≡ e ∷ [] → PartAt t 1 e p → Has t k
+unfolding nth-part
+one-part zero n h = inr (rw n refl)
+one-part (suc zero) n h = inl (_, _, h)
+one-part (suc (suc k)) n h = inr (rw n refl)
 
-one-part : {t e : Term} {p : ℕ} (k : ℕ) → PartAt t 1 e p → length (parts t) ≡ 1 → Has t k
-one-part zero h n = inr λ none. absurd (omega arith)
-one-part (suc zero) h n = inl (_, _, h)
-one-part (suc (suc k)) h n = inr λ _. omega (arith, n)
-
-two-parts : {t a e : Term} {p q : ℕ} (k : ℕ) → PartAt t 1 a p → PartAt t 2 e q → length (parts t) ≡ 2 → Has t k
-two-parts zero g h n = inr λ none. absurd (omega arith)
-two-parts (suc zero) g h n = inl (_, _, g)
-two-parts (suc (suc zero)) g h n = inl (_, _, h)
-two-parts (suc (suc (suc k))) g h n = inr λ _. omega (arith, n)
+two-parts : {t a e : Term} {p q : ℕ} (k : ℕ) → parts t ≡ a ∷ e ∷ [] → PartAt t 1 a p → PartAt t 2 e q → Has t k
+unfolding nth-part
+two-parts zero n g h = inr (rw n refl)
+two-parts (suc zero) n g h = inl (_, _, g)
+two-parts (suc (suc zero)) n g h = inl (_, _, h)
+two-parts (suc (suc (suc k))) n g h = inr (rw n refl)
 
 has : (t : Term) (k : ℕ) → Has t k
-unfolding parts
-has (var i) k = no-part {t = var i} k refl
-has star k = no-part {t = star} k refl
-has (app f u) k = two-parts k app-1 app-2 refl
-has (lam a e) k = two-parts k lam-1 lam-2 refl
-has (pi a b) k = two-parts k pi-1 pi-2 refl
-has (castup a e) k = two-parts k castup-1 castup-2 refl
-has (castdown e) k = one-part k castdown-1 refl
-has (mu a e) k = two-parts k mu-1 mu-2 refl
+unfolding parts nth-part
+has (var i) k = inr refl
+has star k = inr refl
+has (app f u) k = two-parts k refl app-1 app-2
+has (lam a e) k = two-parts k refl lam-1 lam-2
+has (pi a b) k = two-parts k refl pi-1 pi-2
+has (castup a e) k = two-parts k refl castup-1 castup-2
+has (castdown e) k = one-part k refl castdown-1
+has (mu a e) k = two-parts k refl mu-1 mu-2
 
 found-answer : {ws : List ℕ} {k : ℕ} {f : Found} → Finds ws k f → found ws k ≡ f
 unfolding found found-in
@@ -90,7 +67,7 @@ found-answer {k} (no-such-part {t} c n) = rw (codes-read c) (on (has t k))
   where
     on : Has t k → nth-part (parts t) k 1 ≡ absent
     on (inl (e, p, h)) = absurd (n e p h)
-    on (inr out) = nth-none (parts t) k 1 out
+    on (inr none) = none
 found-answer {ws} {k} (no-closed-term n) = on (read ws) refl
   where
     on : (x : Answer Term) → read ws ≡ x → found-in k x ≡ absent
@@ -103,7 +80,8 @@ finds ws k = by-reading (coded-or-misread ws)
   where
     by-part : {t : Term} → Codes ws t → Has t k → (f : Found) × Finds ws k f
     by-part c (inl (e, p, h)) = (_, the-part c h)
-    by-part c (inr out) = (_, no-such-part c λ e p h. let (l, u) = numbered h in omega (arith, out l))
+    by-part c (inr none) =
+        (_, no-such-part c λ e p h. omega (arith, size-positive e, ap (λ f. f .extent) (sym (nth-found h) ∙ none)))
 
     by-reading : Read ws → (f : Found) × Finds ws k f
     by-reading (inl (t, c)) = by-part c (has t k)

@@ -1,7 +1,7 @@
 -- Where the parts of a term stand in its words. Behind a node's own word stand the words of its parts, one after another, as many
 -- as the word says, so that the walk over the first finds the second. That the words found there are the part's is `PartWords`
 -- of the calculus.
-use Prim.Native.Nat.{ℕ, _+_, _-_, _≤_, _<_}
+use Prim.Native.Nat.{ℕ, zero, suc, _+_, _-_, _≤_, _<_}
 use mathlib.Core.List.{List, [], _∷_}
 use mathlib.Core.Path.{_≡_, refl, sym, _∙_}
 use native.Mathlib.Omega.{arith}
@@ -15,7 +15,6 @@ use Rattle.calculus.specs.Scan.{read}
 use Rattle.calculus.specs.Outcomes.{absent, parts, nth-part, found-in, found}
 use Rattle.calculus.proofs.Coding.{emit-append, words-length}
 use Rattle.calculus.proofs.ReadBack.{read-sound}
-use Rattle.calculus.proofs.PartLaw.{nth-none}
 use Rattle.term.specs.Word.{arity}
 use Rattle.term.specs.Walk.{span}
 use Rattle.term.specs.Subterms.{outcome}
@@ -27,7 +26,7 @@ emits : List Term → List ℕ
 emits [] = []
 emits (t ∷ ts) = emit t (emits ts)
 
--- The first of some terms in their words, and the second.
+-- The first of some terms in their words, the second, and a number for which there is none.
 nth-first : (es : List Term) (place : ℕ)
     → 1 ≤ length es
     → nth-part es 1 place ≡ record { start = place; extent = span (emits es) 1 }
@@ -46,6 +45,13 @@ nth-second (a ∷ e ∷ es) place h =
   where
     behind : drop (size a) (emit a (emits (e ∷ es))) ≡ emits (e ∷ es)
     behind = rw (emit-append a (emits (e ∷ es))) (drop-at (words a) (emits (e ∷ es)) (size a) (words-length a))
+
+nth-none : (es : List Term) (k place : ℕ) → (1 ≤ k → length es < k) → nth-part es k place ≡ absent
+unfolding nth-part
+nth-none [] k place h = refl
+nth-none (e ∷ es) zero place h = refl
+nth-none (e ∷ es) (suc zero) place h = absurd (omega (arith, h (omega arith)))
+nth-none (e ∷ es) (suc (suc k)) place h = nth-none es (suc k) (place + size e) λ _. omega (arith, h (omega arith))
 
 -- A list that is read: its own word, and behind it the words of the term's parts.
 record Node (ws : List ℕ) : Type 0 where
