@@ -1,14 +1,13 @@
 -- Demand 2 for checks. Whatever `Checks` says is what `check` answers, by computing through the tests in their order; and `Checks`
 -- says something of every call, since each of its tests is decided. So what `check` answers is what `Checks` says.
 use Prim.Native.Nat.{ℕ, _≤_, zero-le}
-use mathlib.Core.Bool.{false, _&&_}
 use mathlib.Core.List.{List, []}
 use mathlib.Core.Logic.{_⊎_, inl, inr, Dec·and}
 use mathlib.Core.Path.{_≡_, refl, sym, subst}
 use native.Mathlib.Decide.{decLe}
 use native.Mathlib.Omega.{arith}
 use native.Mathlib.Nat.{le-trans}
-use lib.Dec.{leb, lit≤}
+use lib.Dec.{lit≤}
 use lib.ListN.{length}
 use Rattle.calculus.specs.Term.{Term}
 use Rattle.calculus.specs.Answer.{Reason, Answer, ok, refused, _>>=_, _>>_, require, number}
@@ -19,31 +18,16 @@ use Rattle.calculus.specs.Limit.{_⊢⟨_⟩_⦂_}
 use Rattle.calculus.specs.Failing.{Fails}
 use Rattle.calculus.specs.Infer.{infer}
 use Rattle.calculus.specs.Outcomes.{largest-limit, check-room, Checked, verdict, checked, check}
-use Rattle.calculus.specs.Checks.{Coding, PrefixFree, Allowed, Checks, limit-refused, work-refused, output-refused, unread, untyped, typed, Demand2-check, TypedOrFails, Untypable, CheckRefusals}
-use Rattle.calculus.proofs.Comparisons.{le-leb, gt-leb}
+use Rattle.calculus.specs.Checks.{Allowed, Checks, limit-refused, work-refused, output-refused, unread, untyped, typed, Demand2-check, TypedOrFails, Untypable, CheckRefusals}
+use Rattle.calculus.proofs.Comparisons.{le-leb, gt-leb, out-of-range}
 use Rattle.calculus.proofs.Says.{By, Says, says-ok, says-refused, of-refused}
-use Rattle.calculus.proofs.Coding.{prefix-free}
-use Rattle.calculus.proofs.ReadBack.{read-sound, read-exactly, read-refusal}
+use Rattle.calculus.proofs.ReadBack.{codes-read, misread-refused, read-sound, refused-misread, misread-numbers}
 use Rattle.calculus.proofs.Within.{type-fits}
 use Rattle.calculus.proofs.Completeness.{infer-complete, refused-complete, not-both}
 use Rattle.calculus.proofs.Refusals.{no-type, fails-refusal}
 use Rattle.calculus.proofs.Inference.{one-of-two}
 
-pub coding : Coding
-coding = read-exactly
-
-pub words-prefix-free : PrefixFree
-words-prefix-free = prefix-free
-
 module _ (ws : List ℕ) (L : ℕ) (W O : List ℕ) where
-  not-allowed : ¬ Allowed L → (leb 1 L && leb L largest-limit) ≡ false
-  not-allowed n = on (decLe 1 L) (decLe L largest-limit)
-    where
-      on : Dec (1 ≤ L) → Dec (L ≤ largest-limit) → (leb 1 L && leb L largest-limit) ≡ false
-      on (no f) d = rw (gt-leb 1 L (omega arith)) refl
-      on (yes h) (no f) = rw (le-leb 1 L h, gt-leb L largest-limit (omega arith)) refl
-      on (yes h) (yes k) = absurd (n (h, k))
-
   -- Past the three tests of the call, the verdict is of the words alone.
   admitted : Allowed L → check-room L ≤ length W → L ≤ length O → verdict ws L W O ≡ (read ws >>= λ t. infer L [] 0 t)
   unfolding verdict require _>>_ _>>=_
@@ -51,16 +35,16 @@ module _ (ws : List ℕ) (L : ℕ) (W O : List ℕ) where
 
   pub check-answer : {c : Checked} → Checks ws L W O c → check ws L W O ≡ c
   unfolding check checked verdict require _>>_ _>>=_ number
-  check-answer (limit-refused n) = rw (not-allowed n) refl
+  check-answer (limit-refused n) = rw (out-of-range 1 L largest-limit n) refl
   check-answer (work-refused (h, k) w) = rw (le-leb 1 L h, le-leb L largest-limit k, gt-leb (check-room L) (length W) w) refl
   check-answer (output-refused (h, k) w o) =
       rw (le-leb 1 L h, le-leb L largest-limit k, le-leb (check-room L) (length W) w, gt-leb L (length O) o) refl
-  check-answer (unread {r} {p} a w o e) = rw (admitted a w o, e, le-leb (number r) 9 (read-refusal ws r p e .1)) refl
+  check-answer (unread {r} a w o m) = rw (admitted a w o, misread-refused m, le-leb (number r) 9 (misread-numbers m .1)) refl
   check-answer (untyped {r} {p} {t} a w o c f) =
       rw
-      (admitted a w o, read-exactly ws t .1 c, refused-complete f, gt-leb (number r) 9 (fails-refusal f .0))
+      (admitted a w o, codes-read c, refused-complete f, gt-leb (number r) 9 (fails-refusal f .0))
       refl
-  check-answer (typed {t} a w o c d) = rw (admitted a w o, read-exactly ws t .1 c, infer-complete 0 d) refl
+  check-answer (typed {t} a w o c d) = rw (admitted a w o, codes-read c, infer-complete 0 d) refl
 
   -- One of the cases holds.
   abbrev Outcome : Type 0
@@ -83,7 +67,7 @@ module _ (ws : List ℕ) (L : ℕ) (W O : List ℕ) where
       by-reading a w o (ok t) e =
           let c = read-sound ws t e in
           by-rules a w o c (one-of-two L 0 t env-empty (c .1 .closed))
-      by-reading a w o (refused r p) e = (_, unread a w o e)
+      by-reading a w o (refused r p) e = (_, unread a w o (refused-misread ws r p e))
 
       by-output : Allowed L → check-room L ≤ length W → Dec (L ≤ length O) → Outcome
       by-output a w (yes o) = by-reading a w o (read ws) refl
@@ -117,7 +101,7 @@ unfolding number
 numbers (limit-refused n) = says-refused (lit≤ tt, lit≤ tt, zero-le)
 numbers (work-refused a w) = says-refused (lit≤ tt, lit≤ tt, zero-le)
 numbers (output-refused a w o) = says-refused (lit≤ tt, lit≤ tt, zero-le)
-numbers {ws} (unread {r} {p} a w o e) = let (l, u, q) = read-refusal ws r p e in says-refused {r = r} (omega arith, omega arith, q)
+numbers (unread {r} a w o m) = let (l, u, q) = misread-numbers m in says-refused {r = r} (omega arith, omega arith, q)
 numbers (untyped {r} {p} a w o c f) =
     let (l, u, q) = fails-refusal f in
     says-refused {r = r} {p = p} (omega arith, u, omega (arith, c .1 .short))

@@ -12,6 +12,7 @@ use Rattle.calculus.specs.Term.{Term, var, star, app, lam, pi, castup, c
 use Rattle.calculus.specs.Words.{emit, words, Codes}
 use Rattle.calculus.specs.Meaning.{Meaning, a-variable, meaning}
 use Rattle.calculus.specs.Scan.{node, node₁, node₂}
+use Rattle.calculus.specs.Reads.{PrefixFree}
 use Rattle.calculus.proofs.Comparisons.{gt-leb}
 
 emit-before : (t : Term) (j k : List ℕ) → emit t (j ++ k) ≡ emit t j ++ k
@@ -87,7 +88,7 @@ emit-prefix-free s t {j} {k} h = (same, append-cancel-left (words t) j k rest)
     rest : words t ++ j ≡ words t ++ k
     rest = sym (emit-append t j) ∙ ap (λ r. emit r j) (sym same) ∙ h ∙ emit-append t k
 
-pub prefix-free : (s t : Term) (j k : List ℕ) → words s ++ j ≡ words t ++ k → (s ≡ t) × (j ≡ k)
+pub prefix-free : PrefixFree
 prefix-free s t j k h = emit-prefix-free s t (emit-append s j ∙ h ∙ sym (emit-append t k))
 
 pub words-injective : (s t : Term) → words s ≡ words t → s ≡ t

@@ -3,6 +3,7 @@
 use Prim.Native.Nat.{ℕ, _≤_, _<_}
 use mathlib.Core.Bool.{Bool, true, false, not, _&&_}
 use mathlib.Core.Path.{_≡_, refl}
+use native.Mathlib.Decide.{decLe}
 use native.Mathlib.Omega.{arith}
 use lib.Dec.{T, leb, le→leb, leb→le, not-T}
 
@@ -24,3 +25,12 @@ le-leb m n h = passed (leb m n) (le→leb m n h)
 
 pub gt-leb : (m n : ℕ) → n < m → leb m n ≡ false
 gt-leb m n h = failed (leb m n) (not-T (leb m n) λ t. omega (arith, leb→le m n t))
+
+-- A number that is not from `lo` to `hi` fails the two tests in one.
+pub out-of-range : (lo n hi : ℕ) → ¬ ((lo ≤ n) × (n ≤ hi)) → (leb lo n && leb n hi) ≡ false
+out-of-range lo n hi out = on (decLe lo n) (decLe n hi)
+  where
+    on : Dec (lo ≤ n) → Dec (n ≤ hi) → (leb lo n && leb n hi) ≡ false
+    on (no f) d = rw (gt-leb lo n (omega arith)) refl
+    on (yes h) (no f) = rw (le-leb lo n h, gt-leb n hi (omega arith)) refl
+    on (yes h) (yes k) = absurd (out (h, k))

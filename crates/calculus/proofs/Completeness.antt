@@ -1,14 +1,15 @@
 -- Inference answers whatever the rules say: the type of a term typed within the limit, and the reason and the place of a failure.
 -- Along a typing, or a failure, the outcome of every test is known, so inference computes. Hence no term has both.
 use Prim.Native.Nat.{ℕ}
-use mathlib.Core.Bool.{true≢false}
 use mathlib.Core.Path.{_≡_, refl, sym, _∙_}
 use Rattle.calculus.specs.Term.{Term, var, star, app, lam, pi, castup, castdown, mu, substitute, raise}
 use Rattle.calculus.specs.Answer.{ok, refused, Reason, _>>=_, _>>_, require}
+use Rattle.calculus.specs.Words.{first-part, second-part}
 use Rattle.calculus.specs.Rules.{Context, _⊢_⦂_, t-ax, t-var, t-app, t-lam, t-pi, t-castup, t-castdown, t-mu}
 use Rattle.calculus.specs.Limit.{Part, its-type, stepped-annotation, _⊢⟨_⟩_⦂_}
-use Rattle.calculus.specs.Failing.{Fails, first-part, second-part, star-over, var-over, app-function, app-not-product, app-argument, app-mismatch, app-over, lam-annotation, lam-not-star, lam-body, lam-over, pi-domain, pi-domain-not-star, pi-codomain, pi-codomain-not-star, pi-over, castup-annotation, castup-not-star, castup-body, castup-rests, castup-step-over, castup-mismatch, castup-over, castdown-body, castdown-rests, castdown-over, mu-annotation, mu-not-star, mu-body, mu-mismatch, mu-over}
+use Rattle.calculus.specs.Failing.{Fails, star-over, var-over, app-function, app-not-product, app-argument, app-mismatch, app-over, lam-annotation, lam-not-star, lam-body, lam-over, pi-domain, pi-domain-not-star, pi-codomain, pi-codomain-not-star, pi-over, castup-annotation, castup-not-star, castup-body, castup-rests, castup-step-over, castup-mismatch, castup-over, castdown-body, castdown-rests, castdown-over, mu-annotation, mu-not-star, mu-body, mu-mismatch, mu-over}
 use Rattle.calculus.specs.Infer.{infer, product, measure}
+use Rattle.calculus.proofs.Says.{ok-not-refused}
 use Rattle.calculus.proofs.Within.{Fits, part-fits, type-fits}
 use Rattle.calculus.proofs.Testing.{equal, unequal, fitting, over, no-product, steps, rests, annotation-of}
 
@@ -86,9 +87,6 @@ refused-complete {p} (mu-mismatch {a} ha he n) =
     rw (infer-complete (first-part p) ha, equal star, infer-complete (second-part p a) he, unequal n) refl
 refused-complete {p} (mu-over {a} ha he h) =
     rw (infer-complete (first-part p) ha, equal star, infer-complete (second-part p a) he, equal (raise 1 0 a)) (over p a h)
-
-pub ok-not-refused : {τ : Term} {r : Reason} {q : ℕ} → ok τ ≡ refused r q → ⊥
-ok-not-refused e = absurd (true≢false (cc e))
 
 pub not-both : {L : ℕ} {Γ : Context} {p q : ℕ} {e τ : Term} {r : Reason} → Γ ⊢⟨ L ⟩ e ⦂ τ → Fails L Γ p e r q → ⊥
 not-both {p} h d = ok-not-refused (sym (infer-complete p h) ∙ refused-complete d)

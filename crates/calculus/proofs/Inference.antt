@@ -11,16 +11,17 @@ use native.Mathlib.Omega.{arith}
 use lib.ListN.{length}
 use Rattle.calculus.specs.Term.{Term, Term-discrete, var, star, app, lam, pi, castup, castdown, mu, size, raise, substitute}
 use Rattle.calculus.specs.Answer.{ok, refused, Reason, over-limit}
-use Rattle.calculus.specs.Words.{Scoped}
+use Rattle.calculus.specs.Words.{first-part, second-part, Scoped}
 use Rattle.calculus.specs.Rules.{Context, WellFormed, env-var, _⟶_, CanStep, _∋_⦂_, here, there}
 use Rattle.calculus.specs.Limit.{_⊢⟨_⟩_⦂_}
-use Rattle.calculus.specs.Failing.{Fails, first-part, second-part, star-over, var-over, app-function, app-not-product, app-argument, app-mismatch, app-over, lam-annotation, lam-not-star, lam-body, lam-over, pi-domain, pi-domain-not-star, pi-codomain, pi-codomain-not-star, pi-over, castup-annotation, castup-not-star, castup-body, castup-rests, castup-step-over, castup-mismatch, castup-over, castdown-body, castdown-rests, castdown-over, mu-annotation, mu-not-star, mu-body, mu-mismatch, mu-over}
+use Rattle.calculus.specs.Failing.{Fails, star-over, var-over, app-function, app-not-product, app-argument, app-mismatch, app-over, lam-annotation, lam-not-star, lam-body, lam-over, pi-domain, pi-domain-not-star, pi-codomain, pi-codomain-not-star, pi-over, castup-annotation, castup-not-star, castup-body, castup-rests, castup-step-over, castup-mismatch, castup-over, castdown-body, castdown-rests, castdown-over, mu-annotation, mu-not-star, mu-body, mu-mismatch, mu-over}
 use Rattle.calculus.specs.Step.{Next}
 use Rattle.calculus.specs.Infer.{infer, annotation}
+use Rattle.calculus.proofs.Says.{ok-not-refused}
 use Rattle.calculus.proofs.Reduction.{value-rests}
 use Rattle.calculus.proofs.Stepping.{Finds, finds-value, finds-stuck, finds-next, step-finds}
 use Rattle.calculus.proofs.Within.{star-within, var-within, app-within, lam-within, pi-within, castup-within, castdown-within, mu-within}
-use Rattle.calculus.proofs.Completeness.{infer-complete, refused-complete, ok-not-refused}
+use Rattle.calculus.proofs.Completeness.{infer-complete, refused-complete}
 
 -- What the rules say of a term: a type within the limit, or where typing first fails.
 abbrev Verdict : ℕ → Context → ℕ → Term → Type 0

@@ -4,8 +4,9 @@ pub mod Stores
 pub mod Coding
 pub mod Meanings
 pub mod Says
-pub mod ScanSound
 pub mod ScanWords
+pub mod ScanFails
+pub mod Beginnings
 pub mod ReadBack
 pub mod ReadingEdges
 pub mod PartLaw

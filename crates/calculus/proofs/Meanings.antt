@@ -3,7 +3,8 @@
 use Prim.Native.Nat.{ℕ, zero, suc, _+_, _-_, _<_}
 use mathlib.Core.Bool.{Bool, true, false, cond}
 use mathlib.Core.List.{List, [], _∷_}
-use mathlib.Core.Path.{_≡_, refl, sym, _∙_}
+use mathlib.Core.Logic.{_⊎_, inl, inr}
+use mathlib.Core.Path.{_≡_, refl, sym, ap, _∙_}
 use native.Mathlib.Nat.{add-sub-cancel-left, add-sub-of-le, add-zero, zero-add}
 use native.Mathlib.Omega.{arith}
 use lib.Dec.{T, ltb, nltb→le}
@@ -77,3 +78,19 @@ word-meaning w = go (ltb w 16) (ltb w 2048) refl
     go true c e t = in-order 0 table w (refl, (refl, (refl, (refl, (refl, (refl, (refl, tt))))))) t ∙ zero-add w
     go false true e t = add-sub-of-le (nltb→le w 16 (rw e tt))
     go false false e t = elim t [ ]
+
+pub the-word : (w : ℕ) {m : Meaning} → meaning w ≡ m → T (means m) → word m ≡ w
+the-word w e t = ap word (sym e) ∙ word-meaning w (rw e t)
+
+-- A word means nothing or something.
+pub sorted : (m : Meaning) → (m ≡ nothing) ⊎ T (means m)
+unfolding means
+sorted a-star = inr tt
+sorted a-castdown = inr tt
+sorted an-app = inr tt
+sorted a-castup = inr tt
+sorted a-lam = inr tt
+sorted a-pi = inr tt
+sorted a-mu = inr tt
+sorted (a-variable i) = inr tt
+sorted nothing = inl refl

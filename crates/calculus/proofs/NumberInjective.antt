@@ -5,8 +5,8 @@ use mathlib.Core.Logic.{_≢_}
 use mathlib.Core.Path.{_≡_, refl, sym, ap, _∙_}
 use native.Mathlib.Omega.{arith}
 use lib.ListN.{getD}
-use Rattle.calculus.specs.Answer.{Reason, limit-not-allowed, work-short, output-short, length-not-allowed, no-meaning, list-ends, words-after, level-65, unbound, not-star, not-product, wrong-argument, no-step, wrong-cast, wrong-recursion, over-limit, number}
-use Rattle.calculus.specs.Run.{End, at-value, spent, at-stuck, too-long, end-number}
+use Rattle.calculus.specs.Answer.{Reason, limit-not-allowed, work-short, output-short, length-not-allowed, no-meaning, list-ends, words-after, level-65, unbound, not-star, not-product, wrong-argument, no-step, wrong-cast, wrong-recursion, over-limit, number, NumbersApart}
+use Rattle.calculus.specs.Run.{End, at-value, spent, at-stuck, too-long, end-number, EndNumbersApart}
 
 -- A function that another undoes is injective.
 undone : {A B : Type 0} (f : A → B) (g : B → A) → ((a : A) → g (f a) ≡ a) → (a b : A) → f a ≡ f b → a ≡ b
@@ -53,7 +53,7 @@ reason-found wrong-cast = refl
 reason-found wrong-recursion = refl
 reason-found over-limit = refl
 
-pub number-injective : (r s : Reason) → number r ≡ number s → r ≡ s
+pub number-injective : NumbersApart
 number-injective = undone number (λ n. getD reasons n limit-not-allowed) reason-found
 
 -- A reason with the number 0 would be the first of the list, whose number is 1.
@@ -72,5 +72,5 @@ end-found spent = refl
 end-found at-stuck = refl
 end-found too-long = refl
 
-pub end-number-injective : (a b : End) → end-number a ≡ end-number b → a ≡ b
+pub end-number-injective : EndNumbersApart
 end-number-injective = undone end-number (λ n. getD ends n at-value) end-found

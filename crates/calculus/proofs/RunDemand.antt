@@ -15,7 +15,7 @@ use Rattle.calculus.specs.Outcomes.{run-room, Ran, course, ran, run}
 use Rattle.calculus.specs.Runs.{Runs, work-refused, state-refused, unread, ended, Demand2-run, RunRefusals}
 use Rattle.calculus.proofs.Comparisons.{le-leb, gt-leb}
 use Rattle.calculus.proofs.Says.{By, Says, says-ok, says-refused, of-refused}
-use Rattle.calculus.proofs.ReadBack.{read-sound, read-exactly, read-refusal}
+use Rattle.calculus.proofs.ReadBack.{codes-read, misread-refused, read-sound, refused-misread, misread-numbers}
 use Rattle.calculus.proofs.Courses.{run-course, course-answer}
 
 module _ (ws : List ℕ) (budget allowance : ℕ) (W S : List ℕ) where
@@ -23,12 +23,12 @@ module _ (ws : List ℕ) (budget allowance : ℕ) (W S : List ℕ) where
   unfolding run ran course require _>>_ _>>=_
   run-answer (work-refused w) = rw (gt-leb run-room (length W) w) refl
   run-answer (state-refused w s) = rw (le-leb run-room (length W) w, gt-leb longest (length S) s) refl
-  run-answer (unread w s e) = rw (le-leb run-room (length W) w, le-leb longest (length S) s, e) refl
+  run-answer (unread w s m) = rw (le-leb run-room (length W) w, le-leb longest (length S) s, misread-refused m) refl
   run-answer (ended {E} {n} {t} {x} w s c h b l f) =
       rw (
         le-leb run-room (length W) w,
         le-leb longest (length S) s,
-        read-exactly ws t .1 c,
+        codes-read c,
         course-answer
             (min budget allowance)
             n
@@ -48,7 +48,7 @@ module _ (ws : List ℕ) (budget allowance : ℕ) (W S : List ℕ) where
           let c = read-sound ws t e in
           let k = run-course (min budget allowance) t (c .1 .short) in
           (_, ended w s c (k .last) (k .bounded) (k .within) (k .ends))
-      by-reading w s (refused r p) e = (_, unread w s e)
+      by-reading w s (refused r p) e = (_, unread w s (refused-misread ws r p e))
 
       by-state : run-room ≤ length W → Dec (longest ≤ length S) → Outcome
       by-state w (yes s) = by-reading w s (read ws) refl
@@ -72,7 +72,7 @@ numbers : {ws : List ℕ} {budget allowance : ℕ} {W S : List ℕ} {c : Ran}
 unfolding number
 numbers (work-refused w) = says-refused (lit≤ tt, lit≤ tt, zero-le)
 numbers (state-refused w s) = says-refused (lit≤ tt, lit≤ tt, zero-le)
-numbers {ws} (unread {r} {p} w s e) = let (l, u, q) = read-refusal ws r p e in says-refused {r = r} (omega arith, u, q)
+numbers (unread {r} w s m) = let (l, u, q) = misread-numbers m in says-refused {r = r} (omega arith, u, q)
 numbers (ended w s c k b l f) = says-ok tt
 
 pub run-numbers : (ws : List ℕ) (budget allowance : ℕ) (W S : List ℕ)

@@ -15,7 +15,7 @@ use Rattle.calculus.specs.Outcomes.{Ran, run}
 use Rattle.calculus.specs.Runs.{Runs, work-refused, state-refused, unread, ended}
 use Rattle.calculus.specs.Safety.{Only, Safe, Safely, work-refused as work-refused′, state-refused as state-refused′, ended as ended′, SafeRun, Demand3}
 use Rattle.calculus.proofs.Coding.{words-injective, codes-one}
-use Rattle.calculus.proofs.ReadBack.{read-exactly}
+use Rattle.calculus.proofs.ReadBack.{coded-not-misread}
 use Rattle.calculus.proofs.Types.{uniqueness}
 use Rattle.calculus.proofs.Safety.{preservation, progress, typed-next, canonical}
 use Rattle.calculus.proofs.Courses.{state-unique}
@@ -56,7 +56,7 @@ safely : {ws : List ℕ} {budget allowance : ℕ} {W S : List ℕ} {t τ : Term}
     → Safely t τ (min budget allowance) W S (c .answer)
 safely c d (work-refused w) = work-refused′ w
 safely c d (state-refused w s) = state-refused′ w s
-safely {ws} {t} c d (unread w s e) = absurd (true≢false (cc (sym e ∙ read-exactly ws t .1 c)))
+safely c d (unread w s m) = absurd (coded-not-misread c m)
 safely {t} {τ} c d (ended {E} {n} {t = t′} {x} w s c′ k b l f) =
     ended′ w s last f (not-stuck (state-typed d last) f) states
   where

@@ -15,7 +15,11 @@ use Rattle.calculus.specs.Meaning.{Meaning, a-star, a-castdown, an-app, 
 use Rattle.calculus.specs.Scan.{means, bound, test, node, node₁, node₂, Pending, below, scan}
 use Rattle.calculus.proofs.Comparisons.{passed, le-leb}
 use Rattle.calculus.proofs.Meanings.{word, Indexed, meaning-word}
-use Rattle.calculus.proofs.ScanSound.{Fills}
+
+-- A term that may stand where the pending subterm `s` is awaited.
+pub record Fills (s : Pending) (t : Term) : Type 0 where
+  pub scoped : Scoped (s .binders) t
+  pub within : levels t ≤ s .room
 
 -- A word that passes its tests is followed by its parts and what comes after, and makes its node of what the scan of those gives.
 scan-word : (m : Meaning) (s : Pending) {n : ℕ}

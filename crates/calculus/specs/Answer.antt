@@ -1,6 +1,7 @@
 -- What a call answers: something, or a refusal with its reason and its place (document 01, Calls).
 use Prim.Native.Nat.{ℕ}
 use mathlib.Core.Bool.{Bool, true, false}
+use mathlib.Core.Path.{_≡_}
 
 -- The reasons, in the order of document 01's numbers.
 pub data Reason : Type 0 where
@@ -26,6 +27,10 @@ number no-step = 13
 number wrong-cast = 14
 number wrong-recursion = 15
 number over-limit = 16
+
+-- The numbers tell the reasons apart.
+abbrev pub NumbersApart : Type 0
+NumbersApart = (r s : Reason) → number r ≡ number s → r ≡ s
 
 pub data Answer (A : Type 0) : Type 0 where
   ok : A → Answer A

@@ -1,25 +1,17 @@
--- DEMAND 2 for checks: reading, and what a check answers and leaves in its slices, by the rules.
+-- DEMAND 2 for checks: what a check answers and leaves in its slices, by the rules.
 use Prim.Native.Nat.{ℕ, _≤_, _<_}
-use mathlib.Core.List.{List, [], _++_}
+use mathlib.Core.List.{List, []}
 use mathlib.Core.Path.{_≡_}
 use mathlib.Core.Logic.{_↔_, _≢_, _⊎_}
 use lib.ListN.{length, take}
 use Rattle.calculus.specs.Term.{Term, size}
 use Rattle.calculus.specs.Answer.{ok, refused, Reason, number, limit-not-allowed, work-short, output-short, over-limit}
 use Rattle.calculus.specs.Words.{words, Readable, Codes}
-use Rattle.calculus.specs.Scan.{read}
+use Rattle.calculus.specs.Reading.{Misread}
 use Rattle.calculus.specs.Rules.{_⊢_⦂_}
 use Rattle.calculus.specs.Limit.{_⊢⟨_⟩_⦂_}
 use Rattle.calculus.specs.Failing.{Fails}
 use Rattle.calculus.specs.Outcomes.{largest-limit, check-room, begun, cleared, Checked, check}
-
--- "Every list of words is one term or none, and each term of those sizes has one list."
-abbrev pub Coding : Type 0
-Coding = (ws : List ℕ) (t : Term) → (read ws ≡ ok t) ↔ Codes ws t
-
--- A term's words begin no other term's, so a state is found in its slice with no length.
-abbrev pub PrefixFree : Type 0
-PrefixFree = (s t : Term) (j k : List ℕ) → words s ++ j ≡ words t ++ k → (s ≡ t) × (j ≡ k)
 
 -- "Check: L is 0 or above 1,024" is refused.
 abbrev pub Allowed : ℕ → Type 0
@@ -33,7 +25,7 @@ pub data Checks (ws : List ℕ) (L : ℕ) (W O : List ℕ) : Checked → Type 0 
       → Checks ws L W O (record { answer = refused work-short 0; work = W; output = O })
   output-refused : Allowed L → check-room L ≤ length W → length O < L
       → Checks ws L W O (record { answer = refused output-short 0; work = W; output = O })
-  unread : {r : Reason} {p : ℕ} → Allowed L → check-room L ≤ length W → L ≤ length O → read ws ≡ refused r p
+  unread : {r : Reason} {p : ℕ} → Allowed L → check-room L ≤ length W → L ≤ length O → Misread ws r p
       → Checks ws L W O (record { answer = refused r p; work = W; output = O })
   untyped : {r : Reason} {p : ℕ} {t : Term} → Allowed L → check-room L ≤ length W → L ≤ length O
       → Codes ws t → Fails L [] 0 t r p

@@ -1,18 +1,12 @@
 -- Where typing first fails (document 01, "Typing, in checking order"), from the rules alone.
-use Prim.Native.Nat.{ℕ, suc, _+_, _≤_, _<_}
+use Prim.Native.Nat.{ℕ, _≤_, _<_}
 use mathlib.Core.List.{_∷_}
 use mathlib.Core.Logic.{_≢_}
 use Rattle.calculus.specs.Term.{Term, var, star, app, lam, pi, castup, castdown, mu, size, raise, substitute}
 use Rattle.calculus.specs.Answer.{Reason, not-star, not-product, wrong-argument, no-step, wrong-cast, wrong-recursion, over-limit}
+use Rattle.calculus.specs.Words.{first-part, second-part}
 use Rattle.calculus.specs.Rules.{Context, _⟶_, CanStep, _∋_⦂_}
 use Rattle.calculus.specs.Limit.{_⊢⟨_⟩_⦂_}
-
--- The places of the first and second part of a node at place `p`.
-abbrev pub first-part : ℕ → ℕ
-first-part p = suc p
-
-abbrev pub second-part : ℕ → Term → ℕ
-second-part p a = suc p + size a
 
 -- `Fails L Γ p e r q`: typing `e`, which stands at place `p`, first fails by the reason `r` at the place `q`. One constructor for
 -- each test, in the order of the tests; its premises say by the rules that the tests before it passed.

@@ -7,8 +7,8 @@ use native.Mathlib.Decide.{ℕ-discrete}
 use lib.Dec.{leb}
 use Rattle.calculus.specs.Term.{Term, Term-discrete, var, star, app, lam, pi, castup, castdown, mu, size, raise, substitute}
 use Rattle.calculus.specs.Answer.{Answer, ok, refused, _>>=_, _>>_, require, not-star, not-product, wrong-argument, no-step, wrong-cast, wrong-recursion, over-limit}
+use Rattle.calculus.specs.Words.{first-part, second-part}
 use Rattle.calculus.specs.Rules.{Context}
-use Rattle.calculus.specs.Failing.{first-part, second-part}
 use Rattle.calculus.specs.Step.{Next, value, stuck, next, step}
 
 -- A variable's annotation, raised to the present context. (No variable of a closed term is outside its context.)

@@ -3,6 +3,7 @@ pub mod Term
 pub mod Answer
 pub mod Words
 pub mod Meaning
+pub mod Reading
 pub mod Rules
 pub mod Limit
 pub mod Failing
@@ -11,6 +12,8 @@ pub mod Step
 pub mod Infer
 pub mod Run
 pub mod Outcomes
+pub mod Reads
+pub mod Parts
 pub mod Checks
 pub mod Runs
 pub mod Safety

@@ -19,7 +19,8 @@ meaning w =
     (getD (a-star ∷ a-castdown ∷ an-app ∷ a-castup ∷ a-lam ∷ a-pi ∷ a-mu ∷ []) w nothing)
     (cond (ltb w 2048) (a-variable (w - 16)) nothing)
 
--- The parts that follow a node, in order: for each the number of variables that the node binds in it.
+-- The parts that follow a node, in order: for each the number of variables that the node binds in it. "Nodes 4, 5 and 6 bind one
+-- variable in their second part only."
 unfoldable pub binds : Meaning → List ℕ
 binds a-star = []
 binds a-castdown = 0 ∷ []

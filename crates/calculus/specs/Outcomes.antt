@@ -89,8 +89,9 @@ ran allowance W S (refused r p) = record { answer = refused r p; allowance = all
 unfoldable pub run : List ℕ → ℕ → ℕ → List ℕ → List ℕ → Ran
 run ws budget allowance W S = ran allowance W S (course ws (min budget allowance) W S)
 
--- A part lookup: where the part stands in the caller's own words. "For a list that is no closed term, and for a part that isn't
--- there, it hands back an empty part", here at place 0. (`length` is the library's of lists.)
+-- A part lookup as a function: where the part stands in the caller's own words. "For a list that is no closed term, and for a part
+-- that isn't there, it hands back an empty part", here at place 0. Believed only through the theorems of `Parts`. (`length` is the
+-- library's of lists.)
 pub record Found : Type 0 where
   pub start : ℕ
   pub extent : ℕ

@@ -24,6 +24,10 @@ end-number spent = 2
 end-number at-stuck = 3
 end-number too-long = 4
 
+-- The numbers tell the ends apart.
+abbrev pub EndNumbersApart : Type 0
+EndNumbersApart = (a b : End) → end-number a ≡ end-number b → a ≡ b
+
 -- `Ends g n x E`: after `n` of the `g` steps granted, at the state `x`, the run's end is E. "Ends, tested in this order before each
 -- step: 2 spent, steps equal the grant; 1 value; 3 stuck; 4 the next state is over 1,024 words."
 pub data Ends (g n : ℕ) (x : Term) : End → Type 0 where

@@ -7,7 +7,7 @@ use lib.ListN.{length}
 use Rattle.calculus.specs.Term.{Term, size}
 use Rattle.calculus.specs.Answer.{ok, refused, Reason, number, work-short, output-short}
 use Rattle.calculus.specs.Words.{words, Codes, longest}
-use Rattle.calculus.specs.Scan.{read}
+use Rattle.calculus.specs.Reading.{Misread}
 use Rattle.calculus.specs.Run.{State, End, Ends}
 use Rattle.calculus.specs.Outcomes.{run-room, begun, cleared, Ran, run}
 
@@ -17,7 +17,7 @@ pub data Runs (ws : List ℕ) (budget allowance : ℕ) (W S : List ℕ) : Ran �
       → Runs ws budget allowance W S (record { answer = refused work-short 0; allowance = allowance; work = W; state = S })
   state-refused : run-room ≤ length W → length S < longest
       → Runs ws budget allowance W S (record { answer = refused output-short 0; allowance = allowance; work = W; state = S })
-  unread : {r : Reason} {p : ℕ} → run-room ≤ length W → longest ≤ length S → read ws ≡ refused r p
+  unread : {r : Reason} {p : ℕ} → run-room ≤ length W → longest ≤ length S → Misread ws r p
       → Runs ws budget allowance W S (record { answer = refused r p; allowance = allowance; work = W; state = S })
   -- "A run that answers n steps has the states 0 to n; state n is the one with which its state slice then begins, and its end is the
   -- first under Calls that holds there."

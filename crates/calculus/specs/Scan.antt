@@ -1,5 +1,5 @@
 -- Reading a list of words as a function, left to right over the subterms still to come (document 01, Words and Calls). Believed only
--- through the theorems that it reads the list of a term and refuses where `Misread` says.
+-- through the theorems of `Reads`: it answers the term whose words the list is, and refuses where `Misread` says.
 use Prim.Native.Nat.{ℕ, suc, _+_, _-_}
 use mathlib.Core.Bool.{Bool, true, false, _&&_}
 use mathlib.Core.List.{List, [], _∷_, _++_, map}

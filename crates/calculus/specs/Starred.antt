@@ -1,17 +1,18 @@
 -- The starred terms of document 01 ("Terms at the edges"), in one table, with what each row claims, stated in the rules and in the
--- outcomes for all long enough slices. Further rows use the rules that the starred terms leave out.
+-- outcomes for all long enough slices. Further rows use what the starred terms leave out, so that every node, every rule, each of the
+-- refusals 10–16 and every end stands in the table.
 use Prim.Native.Nat.{ℕ, _≤_, _-_, min}
-use mathlib.Core.List.{List, [], _∷_}
+use mathlib.Core.List.{List, [], _∷_, _++_}
 use mathlib.Core.Path.{_≡_}
 use mathlib.Core.Logic.{_≢_}
-use lib.ListN.{length}
+use lib.ListN.{length, replicate}
 use Rattle.calculus.specs.Term.{Term}
 use Rattle.calculus.specs.Answer.{ok, refused, Reason, not-star, not-product, wrong-argument, no-step, wrong-cast, wrong-recursion, over-limit}
 use Rattle.calculus.specs.Words.{words, Codes, longest}
 use Rattle.calculus.specs.Rules.{_⟶_, _⊢_⦂_}
 use Rattle.calculus.specs.Limit.{_⊢⟨_⟩_⦂_}
 use Rattle.calculus.specs.Failing.{Fails}
-use Rattle.calculus.specs.Run.{State, End, at-value, at-stuck, spent, Ends}
+use Rattle.calculus.specs.Run.{State, End, at-value, at-stuck, spent, too-long, Ends}
 use Rattle.calculus.specs.Outcomes.{check-room, run-room, begun, cleared, check, run}
 
 pub data Row : Type 0 where
@@ -52,6 +53,10 @@ unfoldable pub Claims : List Row → Type 0
 Claims [] = Unit
 Claims (r ∷ rs) = Claim r × Claims rs
 
+-- A variable applied to itself again and again: 24 applications and 25 variables.
+abbrev pub self-applied : List ℕ
+self-applied = replicate 24 2 ++ replicate 25 16
+
 abbrev pub starred : List Row
 starred =
     types (0 ∷ []) 64 (0 ∷ [])
@@ -70,11 +75,16 @@ starred =
     ∷ refuses (2 ∷ 4 ∷ 0 ∷ 16 ∷ 4 ∷ 0 ∷ 16 ∷ []) 64 wrong-argument 0
     ∷ refuses (6 ∷ 0 ∷ 4 ∷ 0 ∷ 16 ∷ []) 64 wrong-recursion 0
     ∷ refuses (4 ∷ 4 ∷ 0 ∷ 16 ∷ 0 ∷ []) 64 not-star 1
-    -- T_CASTDOWN and S_CASTDOWNUP: the report program's example
+    -- the product, T_PI, and its codomain refused by 10 at its own place
+    ∷ types (5 ∷ 0 ∷ 16 ∷ []) 64 (0 ∷ [])
+    ∷ refuses (5 ∷ 0 ∷ 4 ∷ 0 ∷ 16 ∷ []) 64 not-star 2
+    -- T_CASTDOWN and S_CASTDOWNUP, and the end at a value: the report program's example
     ∷ types (1 ∷ 3 ∷ 2 ∷ 4 ∷ 0 ∷ 16 ∷ 0 ∷ 0 ∷ []) 32 (0 ∷ [])
     ∷ ends (1 ∷ 3 ∷ 2 ∷ 4 ∷ 0 ∷ 16 ∷ 0 ∷ 0 ∷ []) 1000 at-value 1 (0 ∷ [])
-    -- S_APP, S_CASTDOWN and S_MU: a recursion under a down cast, applied
+    -- S_APP, S_CASTDOWN and S_MU, and the end with the grant used: a recursion under a down cast, applied
     ∷ ends (2 ∷ 1 ∷ 6 ∷ 0 ∷ 16 ∷ 0 ∷ []) 3 spent 3 (2 ∷ 1 ∷ 6 ∷ 0 ∷ 16 ∷ 0 ∷ [])
+    -- S_BETA, and the end before a state over 1,024 words: a recursion of 51 words whose next state would have 1,299
+    ∷ ends (2 ∷ 4 ∷ 0 ∷ 6 ∷ 0 ∷ self-applied ++ 0 ∷ []) 1000 too-long 1 (6 ∷ 0 ∷ self-applied)
     ∷ []
 
 -- Every row of the table holds.

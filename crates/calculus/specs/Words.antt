@@ -18,6 +18,13 @@ emit (var i) k = (16 + i) ∷ k
 unfoldable pub words : Term → List ℕ
 words t = emit t []
 
+-- The places of the first and of the second part of a node at place `p`, whose first part is `a`. "Places count from 0."
+abbrev pub first-part : ℕ → ℕ
+first-part p = suc p
+
+abbrev pub second-part : ℕ → Term → ℕ
+second-part p a = suc p + size a
+
 -- "Its outermost node is at level 1": the level of the deepest node.
 unfoldable pub levels : Term → ℕ
 levels (var i) = 1

@@ -1,5 +1,5 @@
 -- Where the parts of a term stand in its words. Behind a node's own word stand the words of its parts, one after another, as many
--- as the word says, so that the walk over the first finds the second. That the words found there are the part's is `part-words`
+-- as the word says, so that the walk over the first finds the second. That the words found there are the part's is `PartWords`
 -- of the calculus.
 use Prim.Native.Nat.{ℕ, zero, suc, _+_, _-_, _≤_, _<_}
 use mathlib.Core.List.{List, [], _∷_}
@@ -14,13 +14,17 @@ use Rattle.calculus.specs.Meaning.{meaning, binds}
 use Rattle.calculus.specs.Scan.{read}
 use Rattle.calculus.specs.Outcomes.{absent, parts, nth-part, found-in, found}
 use Rattle.calculus.proofs.Coding.{emit-append, words-length}
-use Rattle.calculus.proofs.ScanSound.{emits}
 use Rattle.calculus.proofs.ReadBack.{read-sound}
 use Rattle.term.specs.Word.{arity}
 use Rattle.term.specs.Walk.{span}
 use Rattle.term.specs.Subterms.{outcome}
 use Rattle.term.proofs.Walking.{span-emit, read-term, reads-refusal}
 use Rattle.term.proofs.Words.{no-parts}
+
+-- The words of terms, one after another.
+emits : List Term → List ℕ
+emits [] = []
+emits (t ∷ ts) = emit t (emits ts)
 
 -- The first of some terms in their words, the second, and a number for which there is none.
 nth-first : (es : List Term) (place : ℕ)

@@ -18,6 +18,7 @@ use Rattle.calculus.specs.Infer.{infer}
 use Rattle.calculus.specs.Outcomes.{check-room, begun, cleared, check}
 use Rattle.calculus.specs.Checks.{Allowed, Checks, unread, untyped, typed}
 use Rattle.calculus.proofs.Coding.{words-length}
+use Rattle.calculus.proofs.ReadBack.{refused-misread}
 use Rattle.calculus.proofs.CheckDemand.{check-answer}
 use Rattle.calculus.proofs.Inference.{infer-sound, refused-sound}
 use Rattle.term.specs.Reasons.{reason-of}
@@ -54,7 +55,7 @@ pub unread-out : (ws : List ℕ) {L : ℕ} {W O : List ℕ} (f : Refusal)
     → Admitted L W O
     → outcome (read ws) ≡ refused (reason-of (f .reason)) (f .place)
     → checked-of (checked.Refused f) W O ≡ check ws L W O
-unread-out ws f A e = refused-out {f = f} refl (unread (A .allowed) (A .room) (A .out) (reads-refusal ws e))
+unread-out ws f A e = refused-out {f = f} refl (unread (A .allowed) (A .room) (A .out) (refused-misread ws _ _ (reads-refusal ws e)))
 
 module _ {ws : List ℕ} {L : ℕ} {W O : List ℕ} {t : Term} (A : Admitted L W O) (coded : ws ≡ words t) (readable : Readable t) where
   pub whole : (places : List ℕ) → length places ≡ deepest → Subject [] t ws ws places 0

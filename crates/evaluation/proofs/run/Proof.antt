@@ -13,6 +13,7 @@ use Rattle.calculus.specs.Words.{Readable, words, longest}
 use Rattle.calculus.specs.Run.{run-from}
 use Rattle.calculus.specs.Outcomes.{run-room}
 use Rattle.calculus.specs.Runs.{work-refused, state-refused, unread}
+use Rattle.calculus.proofs.ReadBack.{refused-misread}
 use Rattle.term.specs.Subterms.{reading-of}
 use Rattle.term.proofs.Walking.{reads-term, reads-refusal}
 use Rattle.evaluation.specs.Courses.{Performs}
@@ -62,7 +63,8 @@ returns-3 c =
     let read = c .before .before .before in
     let a = read .before .before .before .before .before .before .args in
     let told = sym (read .read .ensures) ∙ ap reading-of (c .before .refusal .given .1) in
-    let refusal = unread (read .before .before .if1 .left) (read .before .if2 .left) (reads-refusal (now (a .term)) told) in
+    let misread = refused-misread (now (a .term)) _ _ (reads-refusal (now (a .term)) told) in
+    let refusal = unread (read .before .before .if1 .left) (read .before .if2 .left) misread in
     meets-runs (now (a .term)) (a .budget) (a .desk .allowance) (now (a .work)) (now (a .state)) refusal
 
 perform-requires : tie.Need-perform-requires
