@@ -32,6 +32,7 @@ number over-limit = 16
 abbrev pub NumbersApart : Type 0
 NumbersApart = (r s : Reason) → number r ≡ number s → r ≡ s
 
+-- An answer is "typed with a length, or refused with a record of reason and place"; here anything may stand for the length.
 pub data Answer (A : Type 0) : Type 0 where
   ok : A → Answer A
   refused : Reason → ℕ → Answer A
@@ -42,6 +43,7 @@ unfoldable pub _>>=_ : {A B : Type 0} → Answer A → (A → Answer B) → Answ
 _>>=_ (ok a) f = f a
 _>>=_ (refused r p) f = refused r p
 
+-- The same where the first thing tells nothing but that it passed.
 unfoldable pub _>>_ : {A B : Type 0} → Answer A → Answer B → Answer B
 _>>_ a b = a >>= λ _. b
 

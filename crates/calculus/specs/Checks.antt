@@ -34,6 +34,8 @@ pub data Checks (ws : List ℕ) (L : ℕ) (W O : List ℕ) : Checked → Type 0 
       → Codes ws t → [] ⊢⟨ L ⟩ t ⦂ τ
       → Checks ws L W O (record { answer = ok (size τ); work = cleared (check-room L) W; output = begun (words τ) O })
 
+-- "A type is answered exactly when the published rules give the term that type and every type measured on the way fits the caller's
+-- limit [...]. Each refusal names the first rule that fails, in the fixed order." And every word of both slices.
 abbrev pub Demand2-check : Type 0
 Demand2-check = (ws : List ℕ) (L : ℕ) (W O : List ℕ) (c : Checked) → (check ws L W O ≡ c) ↔ Checks ws L W O c
 

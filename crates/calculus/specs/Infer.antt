@@ -17,6 +17,7 @@ annotation [] i = star
 annotation (τ ∷ Γ) zero = raise 1 0 τ
 annotation (τ ∷ Γ) (suc i) = raise 1 0 (annotation Γ i)
 
+-- Equality of types: "equality up to bound names is then equality of lists".
 unfoldable pub same : Term → Term → Bool
 same σ τ = decide (Term-discrete ℕ-discrete σ τ)
 
@@ -26,6 +27,7 @@ measure L p τ = do
   require over-limit p (leb (size τ) L)
   ok τ
 
+-- "its type is a product, else 11"
 unfoldable pub product : ℕ → Term → Answer (Term × Term)
 product p (var i) = refused not-product p
 product p star = refused not-product p
@@ -36,11 +38,13 @@ product p (castup a e) = refused not-product p
 product p (castdown e) = refused not-product p
 product p (mu a e) = refused not-product p
 
+-- "its type steps, else 13"
 unfoldable pub stepped : ℕ → Next → Answer Term
 stepped p value = refused no-step p
 stepped p stuck = refused no-step p
 stepped p (next τ) = ok τ
 
+-- The tests of each node, in the words and the order of "Typing, in checking order".
 unfoldable pub infer : ℕ → Context → ℕ → Term → Answer Term
 infer L Γ p star = measure L p star
 infer L Γ p (var i) = measure L p (annotation Γ i)

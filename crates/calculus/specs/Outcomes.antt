@@ -52,6 +52,7 @@ checked L W O (ok τ) = record { answer = ok (size τ); work = cleared (check-ro
 checked L W O (refused r p) =
     record { answer = refused r p; work = cond (leb (number r) 9) W (cleared (check-room L) W); output = O }
 
+-- A check: its verdict, and what it leaves in the slices.
 unfoldable pub check : List ℕ → ℕ → List ℕ → List ℕ → Checked
 check ws L W O = checked L W O (verdict ws L W O)
 
@@ -60,6 +61,7 @@ pub record Stop : Type 0 where
   pub end : End
   pub steps : ℕ
 
+-- "The run answers its end, the steps taken and the desk with the allowance lowered by exactly those steps."
 pub record Ran : Type 0 where
   pub answer : Answer Stop
   pub allowance : ℕ
@@ -96,9 +98,11 @@ pub record Found : Type 0 where
   pub start : ℕ
   pub extent : ℕ
 
+-- The empty part.
 abbrev pub absent : Found
 absent = record { start = 0; extent = 0 }
 
+-- The parts of a node, in the order in which they follow its word.
 unfoldable pub parts : Term → List Term
 parts (var i) = []
 parts star = []
@@ -116,12 +120,15 @@ nth-part (e ∷ es) zero place = absent
 nth-part (e ∷ es) (suc zero) place = record { start = place; extent = size e }
 nth-part (e ∷ es) (suc (suc k)) place = nth-part es (suc k) (place + size e)
 
+-- In what was read.
 unfoldable pub found-in : ℕ → Answer Term → Found
 found-in k (ok t) = nth-part (parts t) k 1
 found-in k (refused r p) = absent
 
+-- In the caller's list, which is read as a check reads it.
 unfoldable pub found : List ℕ → ℕ → Found
 found ws k = found-in k (read ws)
 
+-- "that part of the caller's own words": what stands there.
 unfoldable pub part : List ℕ → ℕ → List ℕ
 part ws k = take (found ws k .extent) (drop (found ws k .start) ws)

@@ -37,6 +37,7 @@ pub data Finds (ws : List ℕ) (k : ℕ) : Found → Type 0 where
   no-such-part : {t : Term} → Codes ws t → ((e : Term) (p : ℕ) → ¬ PartAt t k e p) → Finds ws k absent
   no-closed-term : ((t : Term) → ¬ Codes ws t) → Finds ws k absent
 
+-- A lookup finds just that.
 abbrev pub Lookup : Type 0
 Lookup = (ws : List ℕ) (k : ℕ) (f : Found) → (found ws k ≡ f) ↔ Finds ws k f
 

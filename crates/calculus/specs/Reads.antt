@@ -49,6 +49,7 @@ edges =
     ∷ record { list = casts (16 ∷ []); reason = level-65; place = 64 }
     ∷ []
 
+-- What the table claims: each of its lists is misread, by that reason and at that place.
 unfoldable pub Misreads : List Edge → Type 0
 Misreads [] = Unit
 Misreads (e ∷ es) = Misread (e .list) (e .reason) (e .place) × Misreads es

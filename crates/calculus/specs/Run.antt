@@ -14,6 +14,7 @@ pub data State (t : Term) : ℕ → Term → Type 0 where
   state-zero : State t zero t
   state-suc : {k : ℕ} {x y : Term} → State t k x → x ⟶ y → State t (suc k) y
 
+-- "Ends [...]: 2 spent, steps equal the grant; 1 value; 3 stuck; 4 the next state is over 1,024 words."
 pub data End : Type 0 where
   at-value spent at-stuck too-long : End
 
@@ -36,6 +37,7 @@ pub data Ends (g n : ℕ) (x : Term) : End → Type 0 where
   ends-stuck : n < g → ¬ Value x → ¬ CanStep x → Ends g n x at-stuck
   ends-long : {y : Term} → n < g → x ⟶ y → longest < size y → Ends g n x too-long
 
+-- What a run comes to: its end, its steps and its last state.
 pub record Ended : Type 0 where
   pub end : End
   pub steps : ℕ
@@ -45,6 +47,7 @@ pub record Ended : Type 0 where
 unfoldable pub done : End → Term → Ended
 done E x = record { end = E; steps = 0; state = x }
 
+-- The same, begun one step earlier.
 unfoldable pub one-more : Ended → Ended
 one-more r = record { end = r .end; steps = suc (r .steps); state = r .state }
 
@@ -54,6 +57,7 @@ advance go x value = done at-value x
 advance go x stuck = done at-stuck x
 advance go x (next y) = cond (leb (size y) longest) (one-more (go y)) (done too-long x)
 
+-- The run from the state `x` within a grant.
 unfoldable pub run-from : ℕ → Term → Ended
 run-from zero x = done spent x
 run-from (suc g) x = advance (run-from g) x (step x)

@@ -31,6 +31,7 @@ pub data Runs (ws : List ℕ) (budget allowance : ℕ) (W S : List ℕ) : Ran �
         state = begun (words x) S;
       })
 
+-- Answer, steps, desk and every word of both slices, of every run.
 abbrev pub Demand2-run : Type 0
 Demand2-run = (ws : List ℕ) (budget allowance : ℕ) (W S : List ℕ) (c : Ran)
     → (run ws budget allowance W S ≡ c) ↔ Runs ws budget allowance W S c

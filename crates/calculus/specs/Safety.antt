@@ -49,6 +49,8 @@ pub record Canonical (v τ : Term) : Type 0 where
   pub products : Is pi τ ↔ Is lam v
   pub stepping : CanStep τ ↔ Is castup v
 
+-- "For every term that a check accepts at any allowed limit, and every run begun at it, whatever budget, desk and slices that run is
+-- given"; and the canonical forms, in every context.
 abbrev pub Demand3 : Type 0
 Demand3 = ((ws : List ℕ) (budget allowance : ℕ) (W S : List ℕ) → SafeRun ws budget allowance W S (run ws budget allowance W S))
     × ((Γ : Context) (v τ : Term) → Value v → Γ ⊢ v ⦂ τ → Canonical v τ)

@@ -15,6 +15,7 @@ pub record Pending : Type 0 where
   pub room : ℕ
   pub binders : ℕ
 
+-- A word has a meaning.
 unfoldable pub means : Meaning → Bool
 means a-star = true
 means a-castdown = true
@@ -50,11 +51,13 @@ unfoldable pub node₁ : (Term → Term) → List Term → List Term
 node₁ c [] = []
 node₁ c (e ∷ ts) = c e ∷ ts
 
+-- With two parts.
 unfoldable pub node₂ : (Term → Term → Term) → List Term → List Term
 node₂ c [] = []
 node₂ c (a ∷ []) = []
 node₂ c (a ∷ e ∷ ts) = c a e ∷ ts
 
+-- With as many as the word has.
 unfoldable pub node : Meaning → List Term → List Term
 node a-star ts = star ∷ ts
 node a-castdown ts = node₁ castdown ts
@@ -66,6 +69,7 @@ node a-mu ts = node₂ mu ts
 node (a-variable i) ts = var i ∷ ts
 node nothing ts = ts
 
+-- A part of a subterm: one level less, and the binders of its node besides.
 unfoldable pub below : Pending → ℕ → Pending
 below s k = record { room = s .room - 1; binders = s .binders + k }
 
@@ -80,6 +84,7 @@ scan (w ∷ ws) (s ∷ ss) p = do
   ts ← scan ws (map (below s) (binds (meaning w)) ++ ss) (suc p)
   ok (node (meaning w) ts)
 
+-- The one term that was asked for.
 unfoldable pub the-first : List Term → Term
 the-first [] = star
 the-first (t ∷ ts) = t

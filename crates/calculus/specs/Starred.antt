@@ -15,6 +15,7 @@ use Rattle.calculus.specs.Failing.{Fails}
 use Rattle.calculus.specs.Run.{State, End, at-value, at-stuck, spent, too-long, Ends}
 use Rattle.calculus.specs.Outcomes.{check-room, run-room, begun, cleared, check, run}
 
+-- A row of the table.
 pub data Row : Type 0 where
   -- words and limit; the type's words, or the reason and the place
   types : List ℕ → ℕ → List ℕ → Row
@@ -24,6 +25,7 @@ pub data Row : Type 0 where
   -- words of which "every run is spent, in the same state"
   spins : List ℕ → Row
 
+-- What a row claims: by the rules first, and then of the call, for all long enough slices.
 unfoldable pub Claim : Row → Type 0
 Claim (types ws L out) = (t : Term) × (τ : Term) × Codes ws t × (out ≡ words τ) × ([] ⊢⟨ L ⟩ t ⦂ τ)
     × ((W O : List ℕ) → check-room L ≤ length W → L ≤ length O
@@ -49,6 +51,7 @@ Claim (spins ws) = (t : Term) × Codes ws t × (t ⟶ t)
       state = begun ws S;
     })
 
+-- Of a table, that each row holds.
 unfoldable pub Claims : List Row → Type 0
 Claims [] = Unit
 Claims (r ∷ rs) = Claim r × Claims rs
@@ -57,6 +60,7 @@ Claims (r ∷ rs) = Claim r × Claims rs
 abbrev pub self-applied : List ℕ
 self-applied = replicate 24 2 ++ replicate 25 16
 
+-- "Starred ones are proved", in document 01's order; "L is 64 unless named".
 abbrev pub starred : List Row
 starred =
     types (0 ∷ []) 64 (0 ∷ [])

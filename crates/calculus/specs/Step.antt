@@ -1,6 +1,7 @@
 -- One step as a function. Believed only through the theorem that it is the relation of `Rules`.
 use Rattle.calculus.specs.Term.{Term, var, star, app, lam, pi, castup, castdown, mu, substitute}
 
+-- What a term does: it is a value, it is stuck, or it has a next state.
 pub data Next : Type 0 where
   value : Next
   stuck : Next
@@ -34,6 +35,7 @@ cancelled (castup a e) = next e
 cancelled (castdown e) = stuck
 cancelled (mu a e) = stuck
 
+-- "Nothing else steps: no argument, no part under a binder, no annotation, no body of an up cast."
 unfoldable pub step : Term → Next
 step (var i) = stuck
 step star = value

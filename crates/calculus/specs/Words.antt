@@ -15,6 +15,7 @@ emit (pi a b) k = 5 ∷ emit a (emit b k)
 emit (mu a e) k = 6 ∷ emit a (emit e k)
 emit (var i) k = (16 + i) ∷ k
 
+-- The words of a term alone.
 unfoldable pub words : Term → List ℕ
 words t = emit t []
 
@@ -54,6 +55,7 @@ longest = 1024
 abbrev pub deepest : ℕ
 deepest = 64
 
+-- A closed term of those sizes: "a term within the stated sizes".
 pub record Readable (t : Term) : Type 0 where
   pub closed : Scoped 0 t
   pub short : size t ≤ longest
