@@ -1,0 +1,5 @@
+-- The laws behind the functions' proofs.
+pub mod Pairs
+pub mod Admitting
+pub mod Judging
+pub mod Room
