@@ -2,4 +2,5 @@
 pub mod Pairs
 pub mod Admitting
 pub mod Judging
+pub mod Example
 pub mod Room

@@ -86,3 +86,9 @@ report-of bytes = printed (told (outcome bytes))
 -- The program reads 2,049 bytes at most: the report on them is the report on all that there are.
 abbrev pub Enough : Type 0
 Enough = (bytes : List ℕ) → report-of (take 2049 bytes) ≡ report-of bytes
+
+-- "For the bytes 01 00 03 00 02 00 04 00 00 00 10 00 00 00 00 00 (hexadecimal) it prints" these lines.
+abbrev pub Example : Type 0
+Example =
+    report-of (1 ∷ 0 ∷ 3 ∷ 0 ∷ 2 ∷ 0 ∷ 4 ∷ 0 ∷ 0 ∷ 0 ∷ 16 ∷ 0 ∷ 0 ∷ 0 ∷ 0 ∷ 0 ∷ [])
+    ≡ ascii "answer=0\nplace=0\ntype=0\nend=1\nsteps=1\nstate=0\n"
