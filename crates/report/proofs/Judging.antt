@@ -1,20 +1,18 @@
 -- What the calls of a check and of a run tell. Their slices are as long as the calls ask for, so each answers what the calculus says of
 -- the words alone: the type stands at the start of the output slice, and the last state at the start of the state slice, where a walk
 -- finds its length.
-use Prim.Native.Nat.{ℕ, _+_, _-_, _*_, _≤_, min}
-use mathlib.Core.Bool.{_&&_}
-use mathlib.Core.List.{List, [], _∷_, _++_}
-use mathlib.Core.Path.{_≡_, refl, sym, ap, ap₂, _∙_, subst}
+use Prim.Native.Nat.{ℕ, _≤_, min}
+use mathlib.Core.List.{List, []}
+use mathlib.Core.Path.{_≡_, refl, sym, ap, ap₂, _∙_}
 use native.Mathlib.Omega.{arith}
-use lib.Dec.{leb}
-use lib.ListN.{length, take, drop, replicate, length-append, length-drop, length-replicate}
+use lib.ListN.{length, take, drop, replicate, length-append, length-drop}
 use lib.Seq.{take-at}
 use Rattle.calculus.specs.Term.{Term, size}
-use Rattle.calculus.specs.Answer.{Reason, Answer, ok, refused, _>>=_, _>>_, require, number}
+use Rattle.calculus.specs.Answer.{Reason, Answer, ok, refused, _>>=_, _>>_, require}
 use Rattle.calculus.specs.Words.{words, longest}
 use Rattle.calculus.specs.Scan.{read}
 use Rattle.calculus.specs.Infer.{infer}
-use Rattle.calculus.specs.Run.{Ended, run-from, end-number}
+use Rattle.calculus.specs.Run.{Ended, run-from}
 use Rattle.calculus.specs.Outcomes.{check-room, run-room, begun, cleared, verdict, checked, check, course, ran, run}
 use Rattle.calculus.proofs.Comparisons.{le-leb}
 use Rattle.calculus.proofs.Coding.{emit-append, words-length}
@@ -25,7 +23,6 @@ use Rattle.feguavy.specs.Numbers.{checked-numbers, Numbered-check, ran-numbers,
 use Rattle.feguavy.specs.declared.CheckedNumbers.{CheckedNumbers}
 use Rattle.feguavy.specs.declared.RanNumbers.{RanNumbers}
 use Rattle.report.specs.Report.{limit, budget, allowance, judged, told, Lines}
-use Rattle.report.specs.Shown.{shown}
 
 -- A slice that begins with the words of a term: they are as many as the term is long, and a walk goes to their end.
 begun-words : (t : Term) (slice : List ℕ) → take (size t) (begun (words t) slice) ≡ words t
