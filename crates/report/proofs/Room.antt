@@ -56,6 +56,13 @@ printed-length l h =
       h .state,
     )
 
+-- A line of words is a line of the words that they are.
+pub of-words : (name : String) {ws vs out after : List ℕ} {at r : ℕ}
+    → ws ≡ vs
+    → Appends (line name (list ws)) out at r after × (length (list ws) ≤ 6 * length ws)
+    → Appends (line name (list vs)) out at r after × (length (list vs) ≤ 6 * length vs)
+of-words name e h = rw e at h
+
 -- What the calls for the six lines leave, in a buffer with room.
 pub record Written (found : Findings) (output state out : List ℕ) (r : ℕ) (after : List ℕ) : Type 0 where
   pub lines : Appends (printed (shown found output state)) out 0 r after

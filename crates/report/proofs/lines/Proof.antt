@@ -4,49 +4,58 @@ use denote.Ref.{now}
 use Rattle.text.specs.Texts.{ascii}
 use Rattle.text.proofs.Appended.{both, length-appended}
 use Rattle.report.specs.Report.{line, printed}
-use Rattle.report.proofs.Room.{Written, written-whole}
+use Rattle.report.proofs.Room.{of-words, Written, written-whole}
 use Rattle.report.proofs.lines.Statement.{statement}
 use Rattle.report.proofs.lines.Tie as tie
 
+-- The calls, from the last to the first, and the function's entry.
+abbrev sixth : tie.After-slice-known7 → tie.After-list-line2
+sixth c = c .before .before
+
+abbrev fifth : tie.After-slice-known7 → tie.After-line4
+fifth c = sixth c .before .before .before .before .before .before
+
+abbrev fourth : tie.After-slice-known7 → tie.After-line3
+fourth c = fifth c .before .before .before .before .before
+
+abbrev third : tie.After-slice-known7 → tie.After-list-line
+third c = fourth c .before .before .before .before .before
+
+abbrev second : tie.After-slice-known7 → tie.After-line2
+second c = third c .before .before .before .before .before .before
+
+abbrev first : tie.After-slice-known7 → tie.After-line
+first c = second c .before .before .before .before .before
+
+abbrev start : tie.After-slice-known7 → tie.Start
+start c = first c .before .before .before .before .before .before
+
 -- The six lines stand one behind the other.
 written : (c : tie.After-slice-known7)
-    → let sixth = c .before .before in
-    let start =
-    sixth .before .before .before .before .before .before .before .before .before .before .before .before .before .before
-    .before .before .before .before .before .before .before .before .before .before .before .before .before .before .before
-    .before .before .before .before in
-    Written
-    (start .args .found)
-    (now (start .args .output))
-    (now (start .args .state))
-    (now (start .args .out))
-    (sixth .list-line2 .result)
-    (sixth .list-line2 .last .1 .1 .0)
+    → Written
+    (start c .args .found)
+    (now (start c .args .output))
+    (now (start c .args .state))
+    (now (start c .args .out))
+    (sixth c .list-line2 .result)
+    (sixth c .list-line2 .last .1 .1 .0)
 unfolding printed line ascii
 written c =
-    let sixth = c .before .before in
-    let state = sixth .before .before in
-    let fifth = state .before .before .before .before in
-    let fourth = fifth .before .before .before .before .before in
-    let third = fourth .before .before .before .before .before in
-    let type = third .before .before in
-    let second = type .before .before .before .before in
-    let first = second .before .before .before .before .before in
-    let types = rw (type .front .ensures) at (third .list-line .ensures) in
-    let states = rw (state .front2 .ensures) at (sixth .list-line2 .ensures) in
-    let three = both (both (first .line .ensures .0) (second .line2 .ensures .0)) (types .0) in
+    let type = of-words "type=" (third c .before .before .front .ensures) (third c .list-line .ensures) in
+    let state = of-words "state=" (sixth c .before .before .front2 .ensures) (sixth c .list-line2 .ensures) in
+    let check = both (both (first c .line .ensures .0) (second c .line2 .ensures .0)) (type .0) in
     record {
-      lines = both (both (both three (fourth .line3 .ensures .0)) (fifth .line4 .ensures .0)) (states .0);
+      lines = both (both (both check (fourth c .line3 .ensures .0)) (fifth c .line4 .ensures .0)) (state .0);
       short =
           record {
-            answer = first .line .ensures .1;
-            place = second .line2 .ensures .1;
-            type = types .1;
-            end = fourth .line3 .ensures .1;
-            steps = fifth .line4 .ensures .1;
-            state = states .1;
+            answer = first c .line .ensures .1;
+            place = second c .line2 .ensures .1;
+            type = type .1;
+            end = fourth c .line3 .ensures .1;
+            steps = fifth c .line4 .ensures .1;
+            state = state .1;
           };
-      room = first .before .before .before .before .before .before .pre;
+      room = start c .pre;
     }
 
 same-length : tie.Need-same-length
