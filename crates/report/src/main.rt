@@ -2,14 +2,22 @@
 use feguavy::feguavy_check;
 use feguavy::feguavy_run;
 use libc::STDIN_FILENO;
+use libc::STDOUT_FILENO;
 use term::walk::span;
 use text::front;
+ghost use Prim.Native.Nat.{_+_, _*_, _≤_};
 ghost use mathlib.Core.List.{[], _∷_, _++_};
+ghost use mathlib.Core.Path.{_≡_};
+ghost use lib.ListN.{length, take};
+ghost use lib.Seq.{sets};
+ghost use Rattle.io.specs.Counts.{Counts};
 ghost use Rattle.text.specs.Appending.{Appends};
 ghost use Rattle.text.specs.Texts.{decimal, list};
+ghost use Rattle.report.specs.Report.{pairs, judged, outcome, told, printed, report-of};
+ghost use Rattle.report.specs.Shown.{shown};
 
 // What is printed, but for the lists, of which it has the lengths.
-struct Report {
+struct Findings {
     answer: u32,
     place: u32,
     length: usize,
@@ -18,8 +26,11 @@ struct Report {
     count: usize,
 }
 
-fn refused(answer: u32, place: u32) -> Report {
-    Report {
+// The report of a refused term.
+fn refused(answer: u32, place: u32) -> Findings
+    ensures { λ r. ⌜ r ≡ record { answer = answer; place = place; length = 0; end = 0; steps = 0; count = 0 } ⌝ }
+{
+    Findings {
         answer,
         place,
         length: 0,
@@ -29,30 +40,32 @@ fn refused(answer: u32, place: u32) -> Report {
     }
 }
 
-fn word(low: u8, high: u8) -> u16 {
+// The word of two bytes.
+fn word(low: u8, high: u8) -> u16
+    ensures { λ r. ⌜ r ≡ low + 256 * high ⌝ }
+{
     low as u16 + 256 * high as u16
 }
 
-// The word of the two bytes at `2 * i`, or 0 where they are not both there.
-fn word_at(bytes: &[u8], i: usize) -> u16 {
-    if i < bytes.len() / 2 {
-        word(bytes[2 * i], bytes[2 * i + 1])
-    } else {
-        0
-    }
-}
-
-// The words of two bytes each, as many as `term` has room for.
-fn read_words(bytes: &[u8], term: &mut [u16]) {
+// Stores the words of two bytes each at the start of `words`.
+fn read_words(bytes: &[u8], words: &mut [u16])
+    requires { ⌜ length (now bytes) ≤ 2 * length (now words) ⌝ }
+    ensures { λ _. ⌜ now (words .exit) ≡ sets (now (words .entry)) 0 (pairs (now (bytes .entry))) ⌝ }
+{
+    let count = bytes.len() / 2;
     let mut i = 0;
-    while i < term.len() {
-        term[i] = word_at(bytes, i);
+    while i < count {
+        words[i] = word(bytes[2 * i], bytes[2 * i + 1]);
         i += 1;
     }
 }
 
 // Limit 32, budget and allowance 1,000. "A refused term isn't run."
-fn judge(term: &[u16], output: &mut [u16], state: &mut [u16]) -> Report {
+fn judge(term: &[u16], output: &mut [u16], state: &mut [u16]) -> Findings
+    requires { ⌜ 32 ≤ length (now output) ⌝ }
+    requires { ⌜ 1024 ≤ length (now state) ⌝ }
+    ensures { λ r. ⌜ shown r (now (output .exit)) (now (state .exit)) ≡ told (judged (now (term .entry))) ⌝ }
+{
     let mut work = [0u16; 16384];
     let checked = feguavy_check(term, 32, &mut work, output);
     let answer = checked.answer;
@@ -61,7 +74,7 @@ fn judge(term: &[u16], output: &mut [u16], state: &mut [u16]) -> Report {
     }
     let length = checked.length as usize;
     let ran = feguavy_run(term, 1000, &mut work, state, 1000);
-    Report {
+    Findings {
         answer: 0,
         place: 0,
         length,
@@ -71,53 +84,72 @@ fn judge(term: &[u16], output: &mut [u16], state: &mut [u16]) -> Report {
     }
 }
 
-// The term is the words of the first `count` bytes; an odd number of bytes and one over 2,048 are no allowed length.
-fn answer(words: &[u16], count: usize, output: &mut [u16], state: &mut [u16]) -> Report {
-    if 2048 < count {
+// An odd number of bytes, and one over 2,048, is no allowed length.
+fn answer(bytes: &[u8], output: &mut [u16], state: &mut [u16]) -> Findings
+    requires { ⌜ 32 ≤ length (now output) ⌝ }
+    requires { ⌜ 1024 ≤ length (now state) ⌝ }
+    ensures { λ r. ⌜ shown r (now (output .exit)) (now (state .exit)) ≡ told (outcome (now (bytes .entry))) ⌝ }
+{
+    if 2048 < bytes.len() {
         return refused(4, 0);
     }
-    if count % 2 != 0 {
+    if bytes.len() % 2 != 0 {
         return refused(4, 0);
     }
-    judge(front(words, count / 2), output, state)
+    let mut words = [0u16; 1024];
+    read_words(bytes, &mut words);
+    judge(front(&words, bytes.len() / 2), output, state)
 }
 
-// A name and its value, with a line feed.
+// A name and its value, of at most ten digits, with a line feed.
 fn line(name: &[u8], value: u32, out: &mut [u8], at: usize) -> usize
     ensures { λ r. ⌜ Appends (now (name .entry) ++ decimal value ++ (10 ∷ [])) (now (out .entry)) at r (now (out .exit)) ⌝ }
+    ensures { λ _. ⌜ length (decimal value) ≤ 10 ⌝ }
 {
     let valued = text::named(name, value as u64, out, at);
     text::byte(b'\n', out, valued)
 }
 
-// A name and its words, with a line feed.
+// A name and its words, of at most five digits and parted by one space, with a line feed.
 fn list_line(name: &[u8], words: &[u16], out: &mut [u8], at: usize) -> usize
     ensures { λ r. ⌜ Appends (now (name .entry) ++ list (now (words .entry)) ++ (10 ∷ []))
         (now (out .entry)) at r (now (out .exit)) ⌝ }
+    ensures { λ _. ⌜ length (list (now (words .entry))) ≤ 6 * length (now (words .entry)) ⌝ }
 {
     let named = text::bytes(name, out, at);
     let listed = text::list(words, out, named);
     text::byte(b'\n', out, listed)
 }
 
-fn print(report: Report, output: &[u16], state: &[u16]) {
-    let mut out = [0u8; 16384];
-    let answered = line(b"answer=", report.answer, &mut out, 0);
-    let placed = line(b"place=", report.place, &mut out, answered);
-    let typed = list_line(b"type=", front(output, report.length), &mut out, placed);
-    let ended = line(b"end=", report.end, &mut out, typed);
-    let stepped = line(b"steps=", report.steps, &mut out, ended);
-    let all = list_line(b"state=", front(state, report.count), &mut out, stepped);
-    text::print(&out, all);
+// The six lines. A word takes at most six bytes, and all else at most 80.
+fn lines(found: Findings, output: &[u16], state: &[u16], out: &mut [u8]) -> usize
+    requires { ⌜ 80 + 6 * (length (now output) + length (now state)) ≤ length (now out) ⌝ }
+    ensures { λ r. ⌜ Counts r (now (out .exit)) × (take r (now (out .exit)) ≡ printed (shown found (now (output .entry)) (now (state .entry)))) ⌝ }
+{
+    let answered = line(b"answer=", found.answer, out, 0);
+    let placed = line(b"place=", found.place, out, answered);
+    let typed = list_line(b"type=", front(output, found.length), out, placed);
+    let ended = line(b"end=", found.end, out, typed);
+    let stepped = line(b"steps=", found.steps, out, ended);
+    list_line(b"state=", front(state, found.count), out, stepped)
+}
+
+// The report on the bytes that were read, at the start of `out`, and its length.
+fn report(bytes: &[u8], out: &mut [u8]) -> usize
+    requires { ⌜ 8192 ≤ length (now out) ⌝ }
+    ensures { λ r. ⌜ Counts r (now (out .exit)) ⌝ }
+    ensures { λ r. ⌜ take r (now (out .exit)) ≡ report-of (now (bytes .entry)) ⌝ }
+{
+    let mut output = [0u16; 32];
+    let mut state = [0u16; 1024];
+    let found = answer(bytes, &mut output, &mut state);
+    lines(found, &output, &state, out)
 }
 
 fn main() {
     let mut bytes = [0u8; 2049];
-    let mut term = [0u16; 1024];
-    let mut output = [0u16; 32];
-    let mut state = [0u16; 1024];
+    let mut out = [0u8; 8192];
     let count = io::read_full(STDIN_FILENO, &mut bytes);
-    read_words(&bytes, &mut term);
-    let report = answer(&term, count, &mut output, &mut state);
-    print(report, &output, &state);
+    let length = report(&bytes[..count], &mut out);
+    io::write_all(STDOUT_FILENO, &out[..length]);
 }

@@ -6,8 +6,8 @@ use mathlib.Core.Logic.{⊎-elim}
 use mathlib.Core.Path.{_≡_, refl, sym, ap, _∙_}
 use native.Mathlib.Nat.{eq-or-lt-of-le}
 use native.Mathlib.Omega.{arith}
-use lib.ListN.{length, length-append}
-use lib.Seq.{sets, length-sets, set-out}
+use lib.ListN.{length, take, drop, length-append}
+use lib.Seq.{sets, sets-eq, length-sets, set-out, take-at}
 use Rattle.calculus.proofs.Stores.{sets-append}
 use Rattle.text.specs.Appending.{Appends, appends, behind}
 
@@ -43,3 +43,10 @@ both {bs} {cs} {out} {mid} {after} {at} (appends p s) (appends q t) =
     appends
     (omega (arith, length-append bs cs, ap length s, length-sets out at bs))
     (t ∙ rw (s, p) (onwards bs cs out at ∙ sym (sets-append out at bs cs)))
+
+-- A text that fits is there whole.
+pub whole : {bs out after : List ℕ} {r : ℕ} → Appends bs out 0 r after → length bs ≤ length out → (r ≡ length bs) × (take r after ≡ bs)
+unfolding behind
+whole {bs} {out} {after} {r} (appends p s) h =
+    let end : r ≡ length bs = omega arith in
+    (end, ap (take r) (s ∙ sets-eq bs out 0 (omega arith)) ∙ take-at bs (drop (0 + length bs) out) r (sym end))

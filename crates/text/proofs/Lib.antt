@@ -2,4 +2,5 @@
 pub mod Appended
 pub mod Decimals
 pub mod Lists
+pub mod Lengths
 pub mod Edges

@@ -1,6 +1,8 @@
--- `list_line` meets its contract: the name, the words and a line feed, one behind the other.
+-- `list_line` meets its contract: the name, the words and a line feed, one behind the other; an element of the slice is a 16-bit word.
 use borrow.Author.Needs.{needs}
+use native.Mathlib.Omega.{arith}
 use Rattle.text.proofs.Appended.{both}
+use Rattle.text.proofs.Lengths.{list-length}
 use Rattle.report.proofs.list_line.Statement.{statement}
 use Rattle.report.proofs.list_line.Tie as tie
 
@@ -8,7 +10,11 @@ returns : tie.Need-returns
 returns c =
     let second = c .before .before .before .before .before .before in
     let first = second .before .before .before .before in
-    both (both (first .bytes .ensures) (second .list .ensures)) (c .before .before .byte .ensures)
+    let known = first .before .before .before in
+    let words = known .before .before .args .words .now in (
+      both (both (first .bytes .ensures) (second .list .ensures)) (c .before .before .byte .ensures),
+      list-length words (λ i. omega (arith, known .shared-slice-known2 .given i)),
+    )
 
 pub list-line-spec : {M : Type 1} → statement M
 list-line-spec =

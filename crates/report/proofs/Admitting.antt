@@ -1,0 +1,32 @@
+-- The test of the number of bytes: what it refuses is refused as a length that is not allowed, and otherwise the words are judged. As
+-- every number over 2,048 is refused alike, no byte behind the first 2,049 changes a report.
+use Prim.Native.Nat.{ℕ, _%_, _≤_, _<_}
+use mathlib.Core.List.{List}
+use mathlib.Core.Path.{_≡_, refl, sym, ap, _∙_}
+use borrow.Author.Tests.{le-leb, lt-leb, eq-eqb, ne-eqb}
+use native.Mathlib.Decide.{decLe}
+use native.Mathlib.Omega.{arith}
+use lib.ListN.{length, take, length-take}
+use lib.Seq.{take-all}
+use Rattle.calculus.specs.Answer.{refused, _>>=_, _>>_, require, length-not-allowed}
+use Rattle.report.specs.Report.{pairs, judged, outcome, told, printed, report-of, Enough}
+
+pub over : (bs : List ℕ) → 2048 < length bs → outcome bs ≡ refused length-not-allowed 0
+unfolding outcome require _>>_ _>>=_
+over bs h = rw (lt-leb (length bs) 2048 h) refl
+
+pub odd : (bs : List ℕ) → length bs ≤ 2048 → (length bs % 2 ≡ 0 → ⊥) → outcome bs ≡ refused length-not-allowed 0
+unfolding outcome require _>>_ _>>=_
+odd bs h n = rw (le-leb (length bs) 2048 h, ne-eqb (length bs % 2) 0 n) refl
+
+pub admitted : (bs : List ℕ) → length bs ≤ 2048 → length bs % 2 ≡ 0 → outcome bs ≡ judged (pairs bs)
+unfolding outcome require _>>_ _>>=_
+admitted bs h e = rw (le-leb (length bs) 2048 h, eq-eqb (length bs % 2) 0 e) refl
+
+pub enough : Enough
+unfolding report-of
+enough bs = ap (λ a. printed (told a)) (on (decLe (length bs) 2048))
+  where
+    on : Dec (length bs ≤ 2048) → outcome (take 2049 bs) ≡ outcome bs
+    on (yes h) = ap outcome (take-all 2049 bs (omega arith))
+    on (no h) = over (take 2049 bs) (omega (arith, length-take 2049 bs)) ∙ sym (over bs (omega arith))

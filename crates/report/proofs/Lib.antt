@@ -1,0 +1,6 @@
+-- The laws behind the functions' proofs.
+pub mod Pairs
+pub mod Admitting
+pub mod Judging
+pub mod Example
+pub mod Room
