@@ -89,18 +89,29 @@ meant Recursion h = tt
 meant (Variable i) h = tt
 meant Nothing h = elim h [ ]
 
--- A variant that is no variable: such a word is inside its binders under any number of them.
-pub no-variable : (m : Meaning) → T (not (eqb (tag m) 7)) → (b : ℕ) → T (bound (meaning-of m) b)
+-- A word of any variant but the variable is inside its binders, however many there are.
+inside : (m : Meaning) → T (not (eqb (tag m) 7)) → (b : ℕ) → T (bound (meaning-of m) b)
 unfolding bound
-no-variable Star h b = tt
-no-variable CastDown h b = tt
-no-variable Application h b = tt
-no-variable CastUp h b = tt
-no-variable Abstraction h b = tt
-no-variable Product h b = tt
-no-variable Recursion h b = tt
-no-variable (Variable i) h b = elim h [ ]
-no-variable Nothing h b = tt
+inside Star h b = tt
+inside CastDown h b = tt
+inside Application h b = tt
+inside CastUp h b = tt
+inside Abstraction h b = tt
+inside Product h b = tt
+inside Recursion h b = tt
+inside (Variable i) h b = elim h [ ]
+inside Nothing h b = tt
+
+pub no-variable : (m : Meaning) → OneOf (0 ∷ 1 ∷ 2 ∷ 3 ∷ 4 ∷ 5 ∷ 6 ∷ 8 ∷ []) (tag m) → (b : ℕ) → T (bound (meaning-of m) b)
+no-variable m one =
+    inside
+    m
+    (at-one
+    (λ t. T (not (eqb t 7)))
+    (0 ∷ 1 ∷ 2 ∷ 3 ∷ 4 ∷ 5 ∷ 6 ∷ 8 ∷ [])
+    (tt, (tt, (tt, (tt, (tt, (tt, (tt, (tt, tt))))))))
+    (tag m)
+    one)
 
 -- What each variant binds in a second part, in the order of the enum.
 abbrev pub seconds : List ℕ

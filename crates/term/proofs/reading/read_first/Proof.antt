@@ -1,15 +1,14 @@
 -- `read_first` meets its contract. The invariant: skimming from the start answers what skimming from `at` answers, with the
 -- subterm at hand before those that the arrays hold. The measure is what is left of the words. Which turn it is goes by the number
 -- of parts in the shape of the word at hand.
-use Prim.Native.Nat.{ℕ, _+_, _-_, _≤_}
+use Prim.Native.Nat.{ℕ, _+_, _-_, _<_}
 use mathlib.Core.List.{List, [], _∷_}
 use mathlib.Core.Logic.{⊎-elim}
 use mathlib.Core.Path.{_≡_, refl, sym, ap, _∙_}
 use native.Mathlib.Nat.{pos-of-ne-zero}
 use native.Mathlib.Omega.{arith}
 use borrow.Author.Needs.{needs}
-use lib.ListN.{length, getD, take}
-use lib.Seq.{take-all}
+use lib.ListN.{length, getD}
 use Rattle.calculus.specs.Answer.{ok}
 use Rattle.term.specs.declared.reading.Visit.{Visit}
 use Rattle.term.specs.declared.word.Shape.{Shape}
@@ -17,6 +16,7 @@ use Rattle.term.specs.Word.{shape-of}
 use Rattle.term.specs.Subterms.{pending, visited, visit-of}
 use Rattle.term.proofs.Turns.{Fits, Stands, begins, short, turn-refused, turn-last, turn-leaf, turn-one, second-fits, turn-two}
 use Rattle.term.proofs.Visits.{has-level}
+use Rattle.term.proofs.Words.{shape-none, shape-one, shape-two}
 use Rattle.term.proofs.reading.read_first.Statement.{statement}
 use Rattle.term.proofs.reading.read_first.Tie as tie
 
@@ -55,16 +55,16 @@ parts : (c : tie.After-known-told2 Inv-loop μ-loop) {ks : List ℕ}
 parts c e = ap ok (sym e) ∙ seen (c .before .before .before) (c .before .shape .given .1)
 
 leaf : (c : tie.At-match2-keys1 Inv-loop μ-loop) → shape-of (shape (c .before)) ≡ []
-leaf c = ap (λ n. take n (0 ∷ shape (c .before) .bound ∷ [])) (c .match2 .keys1)
+leaf c = shape-none (shape (c .before)) (c .match2 .keys1)
 
 one : (c : tie.At-match2-keys2 Inv-loop μ-loop) → shape-of (shape (c .before)) ≡ 0 ∷ []
-one c = ap (λ n. take n (0 ∷ shape (c .before) .bound ∷ [])) (c .match2 .keys2)
+one c = shape-one (shape (c .before)) (c .match2 .keys2)
 
-more-than-one : {n : ℕ} → (n ≡ 0 → ⊥) → (n ≡ 1 → ⊥) → 2 ≤ n
+more-than-one : {n : ℕ} → (n ≡ 0 → ⊥) → (n ≡ 1 → ⊥) → 1 < n
 more-than-one none one = omega arith
 
 two : (c : tie.At-match2-rest Inv-loop μ-loop) → shape-of (shape (c .before)) ≡ 0 ∷ shape (c .before) .bound ∷ []
-two c = take-all _ _ (more-than-one (c .match2 .rest .0 .1) (c .match2 .rest .1))
+two c = shape-two (shape (c .before)) (more-than-one (c .match2 .rest .0 .1) (c .match2 .rest .1))
 
 -- The second part of a node, which is left pending, fits.
 second : (c : tie.At-match2-rest Inv-loop μ-loop)

@@ -56,18 +56,7 @@ passed c =
     (λ w.
     let inside : w .1 .given .0 .0 < seen .before .args .binders = omega (arith, w .3 .ensures, w .4 .left) in
     rw (w .1 .given .1) (tt, lt→ltb _ _ inside))
-    (λ w. (
-      meant m (something m (c .before .before .match .keys2)),
-      no-variable
-      m
-      (at-one
-      (λ t. T (not (eqb t 7)))
-      (0 ∷ 1 ∷ 2 ∷ 3 ∷ 4 ∷ 5 ∷ 6 ∷ 8 ∷ [])
-      (tt, (tt, (tt, (tt, (tt, (tt, (tt, (tt, tt))))))))
-      (tag m)
-      (w .keys2))
-      (seen .before .args .binders),
-    ))
+    (λ w. (meant m (something m (c .before .before .match .keys2)), no-variable m (w .keys2) (seen .before .args .binders)))
     (c .match2 .came)
 
 returns-4 : tie.Need-returns-4
