@@ -9,8 +9,6 @@ use Rattle.term.specs.Walk.{span}
 use Rattle.calculus.specs.Meaning.{binds, meaning}
 use Rattle.reduction.specs.declared.rewriting.Change.{Change}
 use Rattle.reduction.specs.declared.rewriting.Change.the-variants as change
-use Rattle.reduction.specs.declared.rewriting.Shape.{Shape}
-use Rattle.reduction.specs.declared.rewriting.Shape.the-variants as shape
 
 -- `rewritten f ws ds`: `f` at each word of the subterms still to come, of which `ds` has the number of binders around each. It
 -- ends where they end, or where the words do.
@@ -54,10 +52,3 @@ Bounded (change.Put c) u = Plain u × (length u ≤ 2048) × (span u 1 ≡ lengt
 abbrev pub Asks : (source out : List ℕ) → ℕ → Type 0 → Type 0
 Asks source out at numbers =
     (at ≤ length out) × (span source 1 ≡ length source) × (length source ≤ 2048) × Plain source × numbers
-
--- What follows a word, as the enum has it.
-unfoldable pub shape-of : Shape → ℕ → Type 0
-shape-of (shape.Variable i) w = w ≡ 16 + i
-shape-of shape.Leaf w = (w < 16) × (binds (meaning w) ≡ [])
-shape-of shape.One w = (w < 16) × (binds (meaning w) ≡ 0 ∷ [])
-shape-of (shape.Two k) w = (w < 16) × (binds (meaning w) ≡ 0 ∷ k ∷ []) × (k ≤ 1)

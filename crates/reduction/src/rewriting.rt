@@ -3,11 +3,13 @@ use crate::copying::Room;
 use crate::copying::copy;
 use crate::copying::put;
 use term::word::Meaning;
+use term::word::PARTS;
 use term::word::classify;
+use term::word::shape_of;
 ghost use Prim.Native.Nat.{_≤_, _+_, _<_};
 ghost use mathlib.Core.List.{[], _∷_};
 ghost use lib.ListN.{length, drop};
-ghost use Rattle.reduction.specs.Rewriting.{Asks, Below, Bounded, Plain, changed-word, instantiated, raised, rewritten, shape-of};
+ghost use Rattle.reduction.specs.Rewriting.{Asks, Below, Bounded, Plain, changed-word, instantiated, raised, rewritten};
 ghost use Rattle.reduction.specs.Writing.{Rewrites, Writes};
 ghost use Rattle.term.specs.Walk.{span};
 
@@ -22,28 +24,6 @@ pub enum Change {
 enum Progress {
     To(usize, usize),
     Full,
-}
-
-// What follows a word: for two parts, with the number of variables that the node binds in the second.
-enum Shape {
-    Variable(u16),
-    Leaf,
-    One,
-    Two(u16),
-}
-
-// A word that means nothing stands in no term; it is passed over as a leaf.
-fn shape_of(word: u16) -> Shape
-    requires { ⌜ word < 2048 ⌝ }
-    ensures { λ r. ⌜ shape-of r word ⌝ }
-{
-    match classify(word) {
-        Meaning::Variable(index) => Shape::Variable(index),
-        Meaning::Star | Meaning::Nothing => Shape::Leaf,
-        Meaning::CastDown => Shape::One,
-        Meaning::Application | Meaning::CastUp => Shape::Two(0),
-        Meaning::Abstraction | Meaning::Product | Meaning::Recursion => Shape::Two(1),
-    }
 }
 
 // What stands for the variable `index` under `depth` binders.
@@ -92,14 +72,14 @@ fn rewrite(
     ensures { λ r. ⌜ Rewrites (rewritten (changed-word change (now (argument .entry))) (now (source .entry)) (around ∷ []))
         (span (now (source .entry)) 1) (now (out .entry)) from r (now (out .exit)) ⌝ }
 {
+    let table = PARTS;
     let mut at = from;
     let mut read = 0;
     let mut depth = around;
     while read < source.len() {
         let word = source[read];
         read += 1;
-        let found = shape_of(word);
-        if let Shape::Variable(index) = found {
+        if let Meaning::Variable(index) = classify(word) {
             return match rewrite_variable(index, depth, change, argument, out, at) {
                 Room::Full => Progress::Full,
                 Room::To(next) => Progress::To(read, next),
@@ -110,23 +90,21 @@ fn rewrite(
         }
         out[at] = word;
         at += 1;
-        match found {
-            Shape::Variable(_) | Shape::Leaf => {
-                return Progress::To(read, at);
-            }
-            Shape::One => {}
-            Shape::Two(bound) => {
-                match rewrite(&source[read..], depth, change, argument, out, at) {
-                    Progress::Full => {
-                        return Progress::Full;
-                    }
-                    Progress::To(more, next) => {
-                        read += more;
-                        at = next;
-                    }
+        let shape = shape_of(&table, word);
+        if shape.parts == 0 {
+            return Progress::To(read, at);
+        }
+        if 1 < shape.parts {
+            match rewrite(&source[read..], depth, change, argument, out, at) {
+                Progress::Full => {
+                    return Progress::Full;
                 }
-                depth += bound;
+                Progress::To(more, next) => {
+                    read += more;
+                    at = next;
+                }
             }
+            depth += shape.bound;
         }
     }
     Progress::To(read, at)

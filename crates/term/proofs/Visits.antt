@@ -1,11 +1,11 @@
 -- The tests of one word, in the order 5, 8, 9, by what the word means: the first that fails answers, and where all pass the parts
 -- do. The code knows the meaning as a variant, most often only by the number of the variant, its tag. Only a variable needs more
--- than that: the tests and the parts of every other variant go by the tag alone.
+-- than that: the tests of every other variant go by the tag alone, and what it binds.
 use Prim.Native.Nat.{ℕ, _≤_, _<_}
 use mathlib.Core.Bool.{Bool, true, false, not, true≢false}
 use mathlib.Core.List.{List, [], _∷_}
 use mathlib.Core.Logic.{inl, inr}
-use mathlib.Core.Path.{_≡_, refl, sym, ap, subst}
+use mathlib.Core.Path.{_≡_, refl, sym, ap, _∙_, subst}
 use borrow.Author.Tests.{lt-ltb, le-ltb}
 use lib.Dec.{T, ltb, eqb, ltb→lt}
 use lib.ListN.{getD}
@@ -18,7 +18,7 @@ use Rattle.calculus.specs.Scan.{means, bound, test, Pending}
 use Rattle.calculus.proofs.Comparisons.{passed}
 use Rattle.term.specs.declared.word.Meaning.{Meaning}
 use Rattle.term.specs.declared.word.Meaning.the-variants.{Star, CastDown, Application, CastUp, Abstraction, Product, Recursion, Variable, Nothing}
-use Rattle.term.specs.Word.{meaning-of}
+use Rattle.term.specs.Word.{meaning-of, second}
 use Rattle.term.specs.Subterms.{pending, visited}
 use Rattle.term.proofs.Words.{few-binds}
 use Rattle.term.proofs.word.Meaning.{the-type}
@@ -59,7 +59,7 @@ module _ {ks : List ℕ} (w : ℕ) (s : Pending) (p : ℕ) (e : ok ks ≡ visite
   pub has-level : 0 < s .room
   has-level = ltb→lt 0 (s .room) (answers .0)
 
-  pub binds-one : getD ks 1 0 ≤ 1
+  pub binds-one : second ks ≤ 1
   binds-one = rw (answers .1) (few-binds (meaning w) .1)
 
 -- The place of a variant in its enum.
@@ -89,33 +89,49 @@ meant Recursion h = tt
 meant (Variable i) h = tt
 meant Nothing h = elim h [ ]
 
--- A meaning that is no variable: such a word is inside its binders under any number of them, and `ks` are its parts.
-pub record No-variable (m : calculus.Meaning) (ks : List ℕ) : Type 0 where
-  pub inside : (b : ℕ) → T (bound m b)
-  pub parts : binds m ≡ ks
+-- A word of any variant but the variable is inside its binders, however many there are.
+inside : (m : Meaning) → T (not (eqb (tag m) 7)) → (b : ℕ) → T (bound (meaning-of m) b)
+unfolding bound
+inside Star h b = tt
+inside CastDown h b = tt
+inside Application h b = tt
+inside CastUp h b = tt
+inside Abstraction h b = tt
+inside Product h b = tt
+inside Recursion h b = tt
+inside (Variable i) h b = elim h [ ]
+inside Nothing h b = tt
 
--- The parts of each variant, in the order of the enum.
-abbrev pub rows : List (List ℕ)
-rows = [] ∷ (0 ∷ []) ∷ (0 ∷ 0 ∷ []) ∷ (0 ∷ 0 ∷ []) ∷ (0 ∷ 1 ∷ []) ∷ (0 ∷ 1 ∷ []) ∷ (0 ∷ 1 ∷ []) ∷ [] ∷ [] ∷ []
+pub no-variable : (m : Meaning) → OneOf (0 ∷ 1 ∷ 2 ∷ 3 ∷ 4 ∷ 5 ∷ 6 ∷ 8 ∷ []) (tag m) → (b : ℕ) → T (bound (meaning-of m) b)
+no-variable m one =
+    inside
+    m
+    (at-one
+    (λ t. T (not (eqb t 7)))
+    (0 ∷ 1 ∷ 2 ∷ 3 ∷ 4 ∷ 5 ∷ 6 ∷ 8 ∷ [])
+    (tt, (tt, (tt, (tt, (tt, (tt, (tt, (tt, tt))))))))
+    (tag m)
+    one)
 
-by-tag : (m : Meaning) → T (not (eqb (tag m) 7)) → No-variable (meaning-of m) (getD rows (tag m) [])
-unfolding bound binds
-by-tag Star h = record { inside = λ b. tt; parts = refl }
-by-tag CastDown h = record { inside = λ b. tt; parts = refl }
-by-tag Application h = record { inside = λ b. tt; parts = refl }
-by-tag CastUp h = record { inside = λ b. tt; parts = refl }
-by-tag Abstraction h = record { inside = λ b. tt; parts = refl }
-by-tag Product h = record { inside = λ b. tt; parts = refl }
-by-tag Recursion h = record { inside = λ b. tt; parts = refl }
-by-tag (Variable i) h = elim h [ ]
-by-tag Nothing h = record { inside = λ b. tt; parts = refl }
+-- What each variant binds in a second part, in the order of the enum.
+abbrev pub seconds : List ℕ
+seconds = 0 ∷ 0 ∷ 0 ∷ 0 ∷ 1 ∷ 1 ∷ 1 ∷ 0 ∷ 0 ∷ []
 
--- The variant with the tag `t` is another than the variable, and `ks` are its parts.
-abbrev pub Row : List ℕ → ℕ → Type 0
-Row ks t = T (not (eqb t 7)) × (getD rows t [] ≡ ks)
+second-of : (m : Meaning) → getD seconds (tag m) 0 ≡ second (binds (meaning-of m))
+unfolding binds
+second-of Star = refl
+second-of CastDown = refl
+second-of Application = refl
+second-of CastUp = refl
+second-of Abstraction = refl
+second-of Product = refl
+second-of Recursion = refl
+second-of (Variable i) = refl
+second-of Nothing = refl
 
--- An arm for several such variants.
-pub arm : (m : Meaning) (ks tags : List ℕ) → Each (Row ks) tags → OneOf tags (tag m) → No-variable (meaning-of m) ks
-arm m ks tags each one =
-    let (other, same) = at-one (Row ks) tags each (tag m) one in
-    rw same at (by-tag m other)
+-- An arm for several variants that bind alike.
+pub second-by-tag : (m : Meaning) (k : ℕ) (tags : List ℕ)
+    → Each (λ t. k ≡ getD seconds t 0) tags
+    → OneOf tags (tag m)
+    → k ≡ second (binds (meaning-of m))
+second-by-tag m k tags each one = at-one (λ t. k ≡ getD seconds t 0) tags each (tag m) one ∙ second-of m

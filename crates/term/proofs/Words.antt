@@ -3,13 +3,15 @@
 use Prim.Native.Nat.{ℕ, zero, suc, _-_, _≤_, _<_}
 use mathlib.Core.Bool.{Bool, true, false, cond}
 use mathlib.Core.List.{List, [], _∷_}
-use mathlib.Core.Path.{_≡_, refl}
+use mathlib.Core.Path.{_≡_, refl, ap}
 use native.Mathlib.Omega.{arith}
 use borrow.Author.Tests.{lt-ltb, le-ltb}
 use lib.Dec.{ltb, lit≤}
-use lib.ListN.{length, getD, List·getD-eq-default}
+use lib.ListN.{length, getD, take, List·getD-eq-default}
+use lib.Seq.{take-all}
 use Rattle.calculus.specs.Meaning.{Meaning, a-star, a-castdown, an-app, a-castup, a-lam, a-pi, a-mu, a-variable, nothing, binds, meaning}
-use Rattle.term.specs.Word.{arity, parts-table}
+use Rattle.term.specs.declared.word.Shape.{Shape}
+use Rattle.term.specs.Word.{arity, parts-table, second, shape-of}
 
 -- The meanings of words 0–6.
 abbrev table : List Meaning
@@ -65,8 +67,32 @@ pub no-parts : (w : ℕ) → 7 ≤ w → arity w ≡ 0
 unfolding arity
 no-parts w low = rw (no-binds w low) refl
 
+-- The parts are told by how many there are and by what is bound in the second: nothing is bound in a first part.
+pub by-number : (m : Meaning) → take (length (binds m)) (0 ∷ second (binds m) ∷ []) ≡ binds m
+unfolding binds
+by-number a-star = refl
+by-number a-castdown = refl
+by-number an-app = refl
+by-number a-castup = refl
+by-number a-lam = refl
+by-number a-pi = refl
+by-number a-mu = refl
+by-number (a-variable i) = refl
+by-number nothing = refl
+
+-- A shape with no parts, with one and with two.
+module _ (s : Shape) where
+  pub shape-none : s .parts ≡ 0 → shape-of s ≡ []
+  shape-none none = ap (λ n. take n (0 ∷ s .bound ∷ [])) none
+
+  pub shape-one : s .parts ≡ 1 → shape-of s ≡ 0 ∷ []
+  shape-one one = ap (λ n. take n (0 ∷ s .bound ∷ [])) one
+
+  pub shape-two : 1 < s .parts → shape-of s ≡ 0 ∷ s .bound ∷ []
+  shape-two two = take-all (s .parts) (0 ∷ s .bound ∷ []) (omega arith)
+
 -- A word has two parts at most, and binds one variable at most in the second.
-pub few-binds : (m : Meaning) → (length (binds m) ≤ 2) × (getD (binds m) 1 0 ≤ 1)
+pub few-binds : (m : Meaning) → (length (binds m) ≤ 2) × (second (binds m) ≤ 1)
 unfolding binds
 few-binds a-star = (lit≤ tt, lit≤ tt)
 few-binds a-castdown = (lit≤ tt, lit≤ tt)

@@ -4,6 +4,7 @@ use mathlib.Core.List.{List, [], _∷_, _++_, map}
 use Rattle.calculus.specs.Answer.{Answer, ok, refused, _>>=_, _>>_, list-ends}
 use Rattle.calculus.specs.Meaning.{meaning, binds}
 use Rattle.calculus.specs.Scan.{Pending, test, below}
+use Rattle.term.specs.Word.{shape-of}
 use Rattle.term.specs.Reasons.{reason-of}
 use Rattle.term.specs.declared.reading.Reading.{Reading}
 use Rattle.term.specs.declared.reading.Reading.the-variants as reading
@@ -35,9 +36,7 @@ subterm-of (subterm.Ends p) = ok p
 subterm-of (subterm.Refused r) = refused (reason-of (r .reason)) (r .place)
 
 abbrev pub visit-of : Visit → ℕ → Answer (List ℕ)
-visit-of visit.Leaf p = ok []
-visit-of visit.One p = ok (0 ∷ [])
-visit-of (visit.Two k) p = ok (0 ∷ k ∷ [])
+visit-of (visit.Passes s) p = ok (shape-of s)
 visit-of (visit.Refused r) p = refused (reason-of r) p
 
 abbrev pub reading-of : Reading → Answer (Unit {0})

@@ -1,10 +1,11 @@
--- What the enum of a word's meaning stands for, and how many parts follow a word.
+-- What the enum of a word's meaning stands for, and which parts follow a word.
 use Prim.Native.Nat.{ℕ}
 use mathlib.Core.List.{List, [], _∷_}
-use lib.ListN.{length}
+use lib.ListN.{length, getD, take}
 use Rattle.calculus.specs.Meaning as calculus
 use Rattle.term.specs.declared.word.Meaning.{Meaning}
 use Rattle.term.specs.declared.word.Meaning.the-variants.{Star, CastDown, Application, CastUp, Abstraction, Product, Recursion, Variable, Nothing}
+use Rattle.term.specs.declared.word.Shape.{Shape}
 
 abbrev pub meaning-of : Meaning → calculus.Meaning
 meaning-of Star = calculus.a-star
@@ -24,3 +25,11 @@ arity w = length (calculus.binds (calculus.meaning w))
 -- The constant table of the code: words 0–6, and a row for every other word.
 abbrev pub parts-table : List ℕ
 parts-table = 0 ∷ 1 ∷ 2 ∷ 2 ∷ 2 ∷ 2 ∷ 2 ∷ 0 ∷ []
+
+-- The parts of a shape, and for each the number of variables that the node binds there: the nodes that bind do so "in their second
+-- part only".
+abbrev pub shape-of : Shape → List ℕ
+shape-of s = take (s .parts) (0 ∷ s .bound ∷ [])
+
+abbrev pub second : List ℕ → ℕ
+second ks = getD ks 1 0

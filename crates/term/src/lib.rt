@@ -1,7 +1,7 @@
 // Terms in words (document 01, Words): what a word means, the walk over a subterm, reading, and the part lookup.
 ghost use mathlib.Core.Path.{_≡_};
 ghost use Rattle.calculus.specs.Outcomes.{found, part};
-ghost use Rattle.term.specs.Found.{found-of};
+ghost use Rattle.term.specs.Found.{found-of, words-behind};
 
 pub mod reading;
 pub mod refusal;
@@ -55,7 +55,8 @@ pub fn find(term: &[u16], number: u32) -> Found
 
 // The part lookup: that part of the caller's own words, empty where there is none.
 pub fn part(term: &[u16], number: u32) -> &[u16]
-    ensures { λ r. ⌜ now r ≡ part (now (term .entry)) number ⌝ }
+    ensures { λ r. ⌜ (now r ≡ part (now (term .entry)) number)
+        × (r .ptr ≡ words-behind (term .entry .ptr) (found (now (term .entry)) number .start)) ⌝ }
 {
     let found = find(term, number);
     let start = found.start;

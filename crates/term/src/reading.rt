@@ -2,7 +2,10 @@
 use crate::refusal::Reason;
 use crate::refusal::Refusal;
 use crate::word::Meaning;
+use crate::word::PARTS;
+use crate::word::Shape;
 use crate::word::classify;
+use crate::word::shape_of;
 use crate::word::wide;
 ghost use mathlib.Core.Path.{_≡_};
 ghost use Prim.Native.Nat.{ℕ, _≤_};
@@ -10,6 +13,7 @@ ghost use mathlib.Core.List.{[], _∷_};
 ghost use Rattle.calculus.specs.Words.{deepest};
 ghost use Rattle.calculus.specs.Scan.{read};
 ghost use Rattle.term.specs.Subterms.{outcome, pending, reading-of, skim, subterm-of, visit-of, visited};
+ghost use Rattle.term.specs.Word.{parts-table};
 
 // A list is one closed term, or it is refused.
 pub enum Reading {
@@ -23,16 +27,15 @@ enum Subterm {
     Refused(Refusal),
 }
 
-// One word: its parts, for two of them with the number of variables that the node binds in the second.
+// One word.
 enum Visit {
-    Leaf,
-    One,
-    Two(usize),
+    Passes(Shape),
     Refused(Reason),
 }
 
 // The tests of one word, "in the order 5, 8, 9".
-fn tested(word: u16, room: usize, binders: usize) -> Visit
+fn tested(table: &[u8; 8], word: u16, room: usize, binders: usize) -> Visit
+    requires { ⌜ now table ≡ parts-table ⌝ }
     ensures { λ r. ⌜ ((p : ℕ) → visit-of r p ≡ visited word (pending room binders) p) ⌝ }
 {
     let meaning = classify(word);
@@ -42,18 +45,12 @@ fn tested(word: u16, room: usize, binders: usize) -> Visit
     if room == 0 {
         return Visit::Refused(Reason::Level65);
     }
-    match meaning {
-        Meaning::Variable(index) => {
-            if binders <= wide(index) {
-                return Visit::Refused(Reason::Unbound);
-            }
-            Visit::Leaf
+    if let Meaning::Variable(index) = meaning {
+        if binders <= wide(index) {
+            return Visit::Refused(Reason::Unbound);
         }
-        Meaning::CastDown => Visit::One,
-        Meaning::Application | Meaning::CastUp => Visit::Two(0),
-        Meaning::Abstraction | Meaning::Product | Meaning::Recursion => Visit::Two(1),
-        Meaning::Star | Meaning::Nothing => Visit::Leaf,
     }
+    Visit::Passes(shape_of(table, word))
 }
 
 // The levels and the binders of a pending subterm are kept in bytes: neither is above 64.
@@ -75,6 +72,7 @@ fn from_byte(byte: u8) -> usize
 fn read_first(words: &[u16]) -> Subterm
     ensures { λ r. ⌜ subterm-of r ≡ skim (now (words .entry)) (pending deepest 0 ∷ []) 0 ⌝ }
 {
+    let table = PARTS;
     let mut rooms = [0u8; 64];
     let mut scopes = [0u8; 64];
     let mut waiting = 0;
@@ -82,26 +80,31 @@ fn read_first(words: &[u16]) -> Subterm
     let mut room = 64;
     let mut binders = 0;
     while at < words.len() {
-        match tested(words[at], room, binders) {
+        match tested(&table, words[at], room, binders) {
             Visit::Refused(reason) => {
                 return Subterm::Refused(Refusal { reason, place: at });
             }
-            Visit::Leaf => {
-                if waiting == 0 {
-                    return Subterm::Ends(at + 1);
+            Visit::Passes(shape) => {
+                let count = shape.parts;
+                match count {
+                    0 => {
+                        if waiting == 0 {
+                            return Subterm::Ends(at + 1);
+                        }
+                        waiting -= 1;
+                        room = from_byte(rooms[waiting]);
+                        binders = from_byte(scopes[waiting]);
+                    }
+                    1 => {
+                        room -= 1;
+                    }
+                    _ => {
+                        room -= 1;
+                        rooms[waiting] = to_byte(room);
+                        scopes[waiting] = to_byte(binders + wide(shape.bound));
+                        waiting += 1;
+                    }
                 }
-                waiting -= 1;
-                room = from_byte(rooms[waiting]);
-                binders = from_byte(scopes[waiting]);
-            }
-            Visit::One => {
-                room -= 1;
-            }
-            Visit::Two(bound) => {
-                room -= 1;
-                rooms[waiting] = to_byte(room);
-                scopes[waiting] = to_byte(binders + bound);
-                waiting += 1;
             }
         }
         at += 1;

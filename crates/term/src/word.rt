@@ -1,7 +1,7 @@
 // What a word means.
 ghost use mathlib.Core.Path.{_≡_};
-ghost use Rattle.calculus.specs.Meaning.{meaning};
-ghost use Rattle.term.specs.Word.{arity, meaning-of, parts-table};
+ghost use Rattle.calculus.specs.Meaning.{binds, meaning};
+ghost use Rattle.term.specs.Word.{arity, meaning-of, parts-table, second, shape-of};
 
 // Not in the order of the words throughout: as long as a meaning is the word itself, the compiler decides by a table of jumps,
 // and a jump to an unknown place costs more than a few comparisons (docs/PERFORMANCE.md).
@@ -45,6 +45,33 @@ pub fn parts(table: &[u8; 8], word: u16) -> usize
 {
     let row = if word < 7 { word as usize } else { 7 };
     table[row] as usize
+}
+
+// What follows a word: so many parts, and `bound` variables of the node around the second.
+pub struct Shape {
+    pub parts: usize,
+    pub bound: u16,
+}
+
+// How many variables the node binds in its second part.
+fn bound(word: u16) -> u16
+    ensures { λ r. ⌜ r ≡ second (binds (meaning word)) ⌝ }
+{
+    match classify(word) {
+        Meaning::Abstraction | Meaning::Product | Meaning::Recursion => 1,
+        _ => 0,
+    }
+}
+
+// The shape of a word: all that is decided about its parts is decided here.
+pub fn shape_of(table: &[u8; 8], word: u16) -> Shape
+    requires { ⌜ now table ≡ parts-table ⌝ }
+    ensures { λ r. ⌜ shape-of r ≡ binds (meaning word) ⌝ }
+{
+    Shape {
+        parts: parts(table, word),
+        bound: bound(word),
+    }
 }
 
 // A word as a place or a count.

@@ -26,7 +26,8 @@ part-result-end c = within (c .before)
 
 returns : tie.Need-returns
 unfolding part
-returns c = rw (add-sub-cancel-left, ← c .before .before .find .ensures) refl
+returns c =
+    (rw (add-sub-cancel-left, ← c .before .before .find .ensures) refl, rw (← c .before .before .find .ensures) refl)
 
 pub part-spec : {M : Type 1} → statement M
 part-spec =

@@ -1,6 +1,5 @@
 -- The functions of the cycle of calls `rewrite`, `rewrite_variable` and `rewrite_whole` meet their contracts: each by its own
 -- needs, and they end since every call lowers the measure.
-mod Arms
 mod Claims
 mod Loop
 mod Part

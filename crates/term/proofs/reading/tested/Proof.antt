@@ -1,21 +1,19 @@
--- `tested` meets its contract: each return answers what the tests of a word with the meaning found there answer. The arms for
--- several variants know the tag alone.
+-- `tested` meets its contract: each return answers what the tests of a word with the meaning found there answer.
 use Prim.Native.Nat.{ℕ, _<_}
 use mathlib.Core.Bool.{not}
-use mathlib.Core.List.{List, [], _∷_}
-use mathlib.Core.Path.{_≡_, refl, sym, ap, _∙_}
+use mathlib.Core.List.{[], _∷_}
+use mathlib.Core.Logic.{⊎-elim}
+use mathlib.Core.Path.{sym, ap, _∙_}
 use native.Mathlib.Nat.{pos-of-ne-zero}
 use native.Mathlib.Omega.{arith}
 use borrow.Author.Needs.{needs}
 use lib.Dec.{T, eqb, lt→ltb}
 use types.Run.{OneOf}
-use Rattle.calculus.specs.Answer.{ok}
 use Rattle.calculus.specs.Meaning.{binds}
 use Rattle.calculus.specs.Scan.{means, bound}
 use Rattle.term.specs.declared.word.Meaning.{Meaning}
 use Rattle.term.specs.Word.{meaning-of}
-use Rattle.term.specs.Subterms.{pending, visited}
-use Rattle.term.proofs.Visits.{meaningless, too-deep, outside, passes, tag, at-one, meant, Each, Row, arm}
+use Rattle.term.proofs.Visits.{meaningless, too-deep, outside, passes, tag, at-one, meant, no-variable}
 use Rattle.term.proofs.reading.tested.Statement.{statement}
 use Rattle.term.proofs.reading.tested.Tie as tie
 
@@ -46,54 +44,36 @@ returns-3 c p =
     (pos-of-ne-zero (found .before .before .if1 .left))
     (omega (arith, c .before .wide .ensures))
 
+-- A word that passes all tests, by either way: a variable that is bound, or another word.
+passed : (c : tie.At-match2-came)
+    → let seen = c .before .before .before in
+    T (means (meaning-of (seen .classify .result))) × T (bound (meaning-of (seen .classify .result)) (seen .before .args .binders))
+unfolding means bound
+passed c =
+    let seen = c .before .before .before in
+    let m = seen .classify .result in
+    ⊎-elim
+    (λ w.
+    let inside : w .1 .given .0 .0 < seen .before .args .binders = omega (arith, w .3 .ensures, w .4 .left) in
+    rw (w .1 .given .1) (tt, lt→ltb _ _ inside))
+    (λ w. (meant m (something m (c .before .before .match .keys2)), no-variable m (w .keys2) (seen .before .args .binders)))
+    (c .match2 .came)
+
 returns-4 : tie.Need-returns-4
-unfolding means bound binds
 returns-4 c p =
-    let found = c .before .before .before in
-    let seen = found .before .before .before .before in
-    let inside : found .meaning .given .0 .0 < seen .before .args .binders = omega (arith, c .before .wide .ensures) in
+    let seen = c .before .before .before .before in
+    let (means, inside) = passed (c .before) in
     passes
     _ _ _ p
-    (sym (seen .classify .ensures) ∙ ap meaning-of (found .meaning .given .1))
-    tt
-    (pos-of-ne-zero (found .before .before .if1 .left))
-    (lt→ltb _ _ inside)
-    refl
-
--- What an arm of the second match answers, whose variants are no variables and have the parts `ks`.
-answered : (c : tie.Else1) (ks tags : List ℕ)
-    → Each (Row ks) tags
-    → OneOf tags (tag (c .before .before .classify .result))
-    → let a = c .before .before .before .args in
-    (p : ℕ)
-    → ok ks ≡ visited (a .word) (pending (a .room) (a .binders)) p
-answered c ks tags each one p =
-    let m = c .before .before .classify in
-    let v = arm (m .result) ks tags each one in
-    passes
-    _ _ _ p
-    (sym (m .ensures))
-    (meant (m .result) (something (m .result) (c .before .match .keys2)))
-    (pos-of-ne-zero (c .if1 .left))
-    (v .inside _)
-    (v .parts)
-
-returns-5 : tie.Need-returns-5
-returns-5 c = answered (c .before .before) (0 ∷ []) (1 ∷ []) ((tt, refl), tt) (c .before .match2 .keys2)
-
-returns-6 : tie.Need-returns-6
-returns-6 c = answered (c .before) (0 ∷ 0 ∷ []) (2 ∷ 3 ∷ []) ((tt, refl), ((tt, refl), tt)) (c .match2 .keys3)
-
-returns-7 : tie.Need-returns-7
-returns-7 c =
-    answered (c .before) (0 ∷ 1 ∷ []) (4 ∷ 6 ∷ 5 ∷ []) ((tt, refl), ((tt, refl), ((tt, refl), tt))) (c .match2 .keys4)
-
-returns-8 : tie.Need-returns-8
-returns-8 c = answered (c .before) [] (0 ∷ 8 ∷ []) ((tt, refl), ((tt, refl), tt)) (c .match2 .keys5)
+    (sym (seen .classify .ensures))
+    means
+    (pos-of-ne-zero (c .before .before .if1 .left))
+    inside
+    (ap binds (seen .classify .ensures) ∙ sym (c .shape-of .ensures))
 
 pub tested-spec : {M : Type 1} → statement M
 tested-spec =
     tie.close
     (tie.spec
     (λ c κs. search needs) (λ c. search needs) returns returns-2 (λ c. search needs) (λ c κs. search needs) returns-3
-    (λ c. search needs) returns-4 returns-5 returns-6 returns-7 returns-8)
+    (λ c κs. search needs) returns-4)

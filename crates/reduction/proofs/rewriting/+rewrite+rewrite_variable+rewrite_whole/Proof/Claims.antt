@@ -18,7 +18,8 @@ use Rattle.reduction.proofs.rewriting.+rewrite+rewrite_variable+rewrite
 use Rattle.reduction.proofs.copying.copy.Reads as copy-reads
 use Rattle.reduction.proofs.copying.put.Reads as put-reads
 use Rattle.reduction.proofs.rewriting.last_variable.Reads as last-variable-reads
-use Rattle.reduction.proofs.rewriting.shape_of.Reads as shape-of-reads
+use Rattle.term.proofs.word.classify.Reads as classify-reads
+use Rattle.term.proofs.word.shape_of.Reads as shape-of-reads
 use Rattle.reduction.specs.declared.rewriting.Change.{Change}
 use Rattle.reduction.specs.declared.rewriting.Change.the-variants as change
 
@@ -58,8 +59,16 @@ rewrite-whole-below t =
     and 3 rewrite-whole-kinds.ps (falls 3 rewrite-whole-kinds.ps _<_ μ-rewrite-whole t) rewrite-whole.Pre
 
 abbrev pub rewrite-claims : ℕ → rewrite-lts.Claims
-rewrite-claims t =
-    (shape-of-reads.Asked, shape-of-reads.Learnt, rewrite-variable-below t, rewrite-variable.Post, rewrite-below t, rewrite.Post)
+rewrite-claims t = (
+  classify-reads.Asked,
+  classify-reads.Learnt,
+  rewrite-variable-below t,
+  rewrite-variable.Post,
+  shape-of-reads.Asked,
+  shape-of-reads.Learnt,
+  rewrite-below t,
+  rewrite.Post,
+)
 
 abbrev pub rewrite-variable-claims : ℕ → rewrite-variable-lts.Claims
 rewrite-variable-claims t =

@@ -17,7 +17,8 @@ use Rattle.reduction.proofs.rewriting.+rewrite+rewrite_variable+rewrite
 module _ (t : ℕ) where
   pub rewrite-requires : lts.Need-rewrite-requires (rewrite-claims t) (rewrite-at t) reads.Post Inv-loop μ-loop
   rewrite-requires c κs =
-      let s = c .before .before .before .before .before .before .before in
+      let node = c .before .before .before .before .before .before .before .before in
+      let s = node .before .before in
       let start = s .before .before .before .before .before .before .before in
       let next = s .before .before .before .loop .read + 1 in
       let ws = start .args .source .now in
@@ -25,7 +26,7 @@ module _ (t : ℕ) where
       let count = ap length part ∙ length-drop next ws in (
         omega (arith, start .pre .0, count, more t s),
         (
-          simp length-set (omega (arith, c .before .before .before .before .before .if1 .left)),
+          simp length-set (omega (arith, node .if1 .left)),
           omega (arith, turn t s .shallow, count, more t s),
           rw part (below-drop 2048 next ws (start .pre .1 .2)),
           start .pre .1 .3,
@@ -35,22 +36,22 @@ module _ (t : ℕ) where
   pub same-length-5 : lts.Need-same-length-5 (rewrite-claims t) (rewrite-at t) reads.Post Inv-loop μ-loop
   same-length-5 c =
       let call = c .before .before .before .before in
-      let s = call .before .before .before .before .before .before .before .before in
+      let s = call .before .before .before .before .before .before .before .before .before .before .before in
       call .rewrite .kept .1 .1 .1 .1 .0 ∙ simp length-set (turn-length (turn t s))
 
   pub returns-5 : lts.Need-returns-5 (rewrite-claims t) (rewrite-at t) reads.Post Inv-loop μ-loop
   returns-5 c =
       let call = c .before .before .before .before in
-      let found = call .before .before .before .before in
-      let node = found .before .before in
+      let found = call .before .before .before in
+      let node = found .before .before .before .before .before .before in
       let s = node .before .before in
-      let l = rw from-on at (relacked-of (call .rewrite .ensures) (c .enum-told3 .given .1)) in
+      let l = rw from-on at (relacked-of (call .rewrite .ensures) (c .enum-told2 .given .1)) in
       written-short (part-lacked (turn t s) (more t s) (still t (node .before)) (node .if1 .left) (two t found .0) l)
 
   pub add-read-2 : lts.Need-add-read-2 (rewrite-claims t) (rewrite-at t) reads.Post Inv-loop μ-loop
   add-read-2 c =
       let call = c .before .before .before .before .before in
-      let s = call .before .before .before .before .before .before .before .before in
+      let s = call .before .before .before .before .before .before .before .before .before .before .before in
       let start = s .before .before .before .before .before .before .before in
       let next = s .before .before .before .loop .read + 1 in
       let ws = start .args .source .now in
@@ -67,16 +68,16 @@ module _ (t : ℕ) where
   pub add-depth : lts.Need-add-depth (rewrite-claims t) (rewrite-at t) reads.Post Inv-loop μ-loop
   add-depth c =
       let found = c .before .before .before .before .before .before .before .before .before in
-      let s = found .before .before .before .before in
+      let s = found .before .before .before .before .before .before .before .before in
       omega (arith, two t found .1, turn t s .shallow, more t s)
 
-  pub loop-again-2 : lts.Need-loop-again-2 (rewrite-claims t) (rewrite-at t) reads.Post Inv-loop μ-loop
-  loop-again-2 c =
-      let call = c .before .before .before .before .before in
-      let found = call .before .before .before .before in
-      let node = found .before .before in
+  pub loop-again : lts.Need-loop-again (rewrite-claims t) (rewrite-at t) reads.Post Inv-loop μ-loop
+  loop-again c =
+      let call = c .before .before .before .before .before .before in
+      let found = call .before .before .before in
+      let node = found .before .before .before .before .before .before in
       let s = node .before .before in
-      let r = rewrote-of (call .rewrite .ensures) (c .before .more .given .1) in
+      let r = rewrote-of (call .rewrite .ensures) (c .before .before .more .given .1) in
       let w = rw from-on at (r .1) in
       rw
       (rw from-on at (r .0))
