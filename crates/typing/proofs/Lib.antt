@@ -21,6 +21,7 @@ pub mod Compared
 pub mod Applying
 pub mod Calling
 pub mod Putting
+pub mod Applied
 pub mod Binding
 pub mod Products
 pub mod Variables
