@@ -44,3 +44,11 @@ Moves calculus.stuck work top limit r after = r ≡ stepped.Stuck
 Moves (calculus.next x) work top limit r after =
     (size x ≤ limit → (r ≡ stepped.To (size x)) × (after ≡ sets work top (words x)))
     × (limit < size x → r ≡ stepped.Full)
+
+-- "the annotation steps, else 13; the stepped annotation is measured".
+abbrev pub StepsInto : Term → List ℕ → ℕ → ℕ → Stepped → List ℕ → Type 0
+StepsInto a = Moves (calculus.step a)
+
+-- "its type steps, else 13; the stepped type".
+abbrev pub StepsType : Term → List ℕ → ℕ → ℕ → Stepped → List ℕ → Type 0
+StepsType σ = Moves (calculus.step σ)

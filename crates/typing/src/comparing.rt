@@ -4,7 +4,7 @@ ghost use mathlib.Core.Logic.{_↔_};
 ghost use mathlib.Core.Path.{_≡_};
 
 // Whether both are the same words. No early end, so that many words are compared at once.
-pub fn same(first: &[u16], second: &[u16]) -> bool
+pub(crate) fn same(first: &[u16], second: &[u16]) -> bool
     ensures { λ r. ⌜ (r ≡ true) ↔ (now (first .entry) ≡ now (second .entry)) ⌝ }
 {
     let count = first.len();

@@ -23,7 +23,7 @@ ghost use Rattle.calculus.specs.Infer.{infer};
 ghost use Rattle.typing.specs.Inference.{Annotation, Asks, Asks₂, Raises, Tells, Tells₂, star-typed};
 
 // Typed with the length of the subterm and of its type, or refused.
-pub enum Inferred {
+pub(crate) enum Inferred {
     Typed(usize, usize),
     Refused(Refusal),
 }
@@ -301,7 +301,7 @@ fn narrow(place: usize) -> u16
 
 // The type of the subterm that `sub`, the end of `term`, begins with. `context` has the places of the annotations around it,
 // outermost first, of which there are `depth`.
-pub fn infer(
+pub(crate) fn infer(
     term: &[u16],
     sub: &[u16],
     context: &mut [u16; 64],

@@ -12,12 +12,11 @@ ghost use Prim.Native.Nat.{_+_, _≤_};
 ghost use lib.ListN.{drop, length, take};
 ghost use Rattle.calculus.specs.Term.{Term, pi, substitute};
 ghost use Rattle.calculus.specs.Words.{words};
-ghost use Rattle.calculus.specs.Step as calculus;
 ghost use Rattle.reduction.specs.Stepping.{CodesWithin};
-ghost use Rattle.typing.specs.Moving.{Applies, Moves, Product, Puts};
+ghost use Rattle.typing.specs.Moving.{Applies, Product, Puts, StepsInto, StepsType};
 
 // What an application of a product answers.
-pub enum Applied {
+pub(crate) enum Applied {
     WrongArgument,
     Full,
     To(usize),
@@ -41,7 +40,7 @@ fn put_in(
 
 // The product at `top`, `count` words long, applied to the argument, whose type lies behind it and is `own` words long: the
 // codomain with the argument put in, written at `top` within the limit.
-pub fn apply(
+pub(crate) fn apply(
     argument: &[u16],
     closed: bool,
     work: &mut [u16],
@@ -68,18 +67,30 @@ pub fn apply(
 }
 
 // The next state of `state`, written at `top` within the limit.
-pub fn step_into(state: &[u16], closed: bool, work: &mut [u16], top: usize, limit: usize) -> Stepped
+pub(crate) fn step_into(
+    state: &[u16],
+    closed: bool,
+    work: &mut [u16],
+    top: usize,
+    limit: usize,
+) -> Stepped
     requires { ⌜ (top + limit ≤ length (now work)) × CodesWithin (now state) closed ⌝ }
-    ensures { λ r. ⌜ ((b : Term) → now (state .entry) ≡ words b → Moves (calculus.step b) (now (work .entry)) top limit r (now (work .exit))) ⌝ }
+    ensures { λ r. ⌜ ((b : Term) → now (state .entry) ≡ words b → StepsInto b (now (work .entry)) top limit r (now (work .exit))) ⌝ }
 {
     let end = top + limit;
     step(state, closed, &mut work[top..end])
 }
 
 // The type at `top`, `count` words long, moved by one step within the limit.
-pub fn step_type(closed: bool, work: &mut [u16], top: usize, count: usize, limit: usize) -> Stepped
+pub(crate) fn step_type(
+    closed: bool,
+    work: &mut [u16],
+    top: usize,
+    count: usize,
+    limit: usize,
+) -> Stepped
     requires { ⌜ (top + limit ≤ length (now work)) × (top + count ≤ length (now work)) × CodesWithin (take count (drop top (now work))) closed ⌝ }
-    ensures { λ r. ⌜ ((b : Term) → take count (drop top (now (work .entry))) ≡ words b → Moves (calculus.step b) (now (work .entry)) top limit r (now (work .exit))) ⌝ }
+    ensures { λ r. ⌜ ((b : Term) → take count (drop top (now (work .entry))) ≡ words b → StepsType b (now (work .entry)) top limit r (now (work .exit))) ⌝ }
 {
     let mut copied = [0u16; 1024];
     let end = top + count;
