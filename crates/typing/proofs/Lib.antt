@@ -25,3 +25,4 @@ pub mod Applied
 pub mod Binding
 pub mod Products
 pub mod Variables
+pub mod Maps
