@@ -18,8 +18,8 @@ use Rattle.calculus.proofs.Courses.{run-course}
 use Rattle.calculus.proofs.RunDemand.{run-answer}
 use Rattle.calculus.proofs.SafetyDemand.{demand3}
 use Rattle.evaluation.specs.declared.Course.{Course}
-use Rattle.evaluation.specs.Courses.{Performs}
-use Rattle.evaluation.specs.Outcomes.{end-of, ended as left}
+use Rattle.evaluation.specs.Courses.{Performs, ended as left}
+use Rattle.evaluation.specs.Outcomes.{end-of}
 use Rattle.reduction.proofs.Begun.{cleared-same}
 
 -- A course takes no more steps than are granted.

@@ -2,3 +2,4 @@
 pub mod States
 pub mod Turns
 pub mod Answers
+pub mod Maps

@@ -1,12 +1,14 @@
--- What the inner functions of a run leave in the working slice.
-use Prim.Native.Nat.{ℕ, _≤_, _<_}
+-- What the inner functions of a run answer and leave in the slices.
+use Prim.Native.Nat.{ℕ, _-_, _≤_, _<_}
 use mathlib.Core.List.{List}
 use mathlib.Core.Path.{_≡_}
 use lib.ListN.{length, take, drop}
 use Rattle.calculus.specs.Term.{Term, size}
 use Rattle.calculus.specs.Words.{words, Scoped, longest}
 use Rattle.calculus.specs.Step as calculus
-use Rattle.calculus.specs.Run.{Ended}
+use Rattle.calculus.specs.Answer.{ok}
+use Rattle.calculus.specs.Run.{End, Ended}
+use Rattle.calculus.specs.Outcomes as outcomes
 use Rattle.reduction.specs.declared.stepping.Stepped.{Stepped}
 use Rattle.reduction.specs.declared.stepping.Stepped.the-variants as stepped
 use Rattle.evaluation.specs.declared.Course.{Course}
@@ -39,3 +41,13 @@ pub record Performs (e : Ended) (work : List ℕ) (r : Course) (after : List ℕ
   pub steps : r .steps ≡ e .steps
   pub holds : Holds after (r .length) (e .state)
   pub behind : drop longest after ≡ drop longest work
+
+-- What a run that ended leaves.
+abbrev pub ended : End → ℕ → ℕ → List ℕ → List ℕ → outcomes.Ran
+ended e n allowance work state =
+    record {
+      answer = ok (record { end = e; steps = n });
+      allowance = allowance - n;
+      work = outcomes.cleared outcomes.run-room work;
+      state = state;
+    }

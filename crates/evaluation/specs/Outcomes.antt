@@ -1,5 +1,5 @@
 -- The outcome of the calculus that the structs and enums of a run stand for.
-use Prim.Native.Nat.{ℕ, _-_}
+use Prim.Native.Nat.{ℕ}
 use mathlib.Core.List.{List}
 use Rattle.calculus.specs.Answer.{Answer, ok, refused}
 use Rattle.calculus.specs.Run as calculus
@@ -24,13 +24,3 @@ answer-of (ran.Refused r) = refused (reason-of (r .reason)) (r .place)
 
 abbrev pub ran-of : Outcome → List ℕ → List ℕ → outcomes.Ran
 ran-of r work state = record { answer = answer-of (r .answer); allowance = r .desk .allowance; work = work; state = state }
-
--- What a run that ended leaves.
-abbrev pub ended : calculus.End → ℕ → ℕ → List ℕ → List ℕ → outcomes.Ran
-ended e n allowance work state =
-    record {
-      answer = ok (record { end = e; steps = n });
-      allowance = allowance - n;
-      work = outcomes.cleared outcomes.run-room work;
-      state = state;
-    }

@@ -16,8 +16,8 @@ ghost use Rattle.calculus.specs.Step as calculus;
 ghost use Rattle.calculus.specs.Run.{run-from};
 ghost use Rattle.calculus.specs.Outcomes.{begun, run, run-room};
 ghost use Rattle.calculus.specs.Safety.{SafeRun};
-ghost use Rattle.evaluation.specs.Courses.{Advances, Holds, Performs};
-ghost use Rattle.evaluation.specs.Outcomes.{end-of, ended, ran-of};
+ghost use Rattle.evaluation.specs.Courses.{Advances, Holds, Performs, ended};
+ghost use Rattle.evaluation.specs.Outcomes.{end-of, ran-of};
 
 // The desk of document 01: one allowance of steps.
 pub struct Desk {

@@ -1,11 +1,16 @@
 -- The structs of C and Rust tell every two outcomes apart: the numbers of reasons and of ends are injective, and the number of a reason
 -- is not 0, which is the answer of a call that is not refused.
 use Prim.Native.Nat.{ℕ}
-use mathlib.Core.Path.{_≡_, sym, ap, ap₂}
+use mathlib.Core.List.{List}
+use mathlib.Core.Path.{_≡_, sym, ap, ap₂, _∙_}
 use Rattle.calculus.specs.Answer.{Answer, ok, refused}
 use Rattle.calculus.specs.Outcomes.{Stop}
+use Rattle.calculus.specs.Outcomes as calculus
 use Rattle.calculus.proofs.NumberInjective.{number-injective, number-not-zero, end-number-injective}
-use Rattle.feguavy.specs.Numbers.{checked-numbers, ran-numbers}
+use Rattle.feguavy.specs.declared.CheckedNumbers.{CheckedNumbers}
+use Rattle.feguavy.specs.declared.RanNumbers.{RanNumbers}
+use Rattle.feguavy.specs.declared.FoundNumbers.{FoundNumbers}
+use Rattle.feguavy.specs.Numbers.{checked-numbers, Numbered-check, ran-numbers, Numbered-run, found-numbers}
 
 pub checked-numbers-injective : (a b : Answer ℕ) → checked-numbers a ≡ checked-numbers b → a ≡ b
 unfolding checked-numbers
@@ -23,3 +28,24 @@ ran-numbers-injective (ok s) (refused r p) m n e = absurd (number-not-zero r (ap
 ran-numbers-injective (refused r p) (ok s) m n e = absurd (number-not-zero r (ap (λ x. x .answer) e))
 ran-numbers-injective (refused r p) (refused s q) m n e =
     (ap₂ refused (number-injective r s (ap (λ x. x .answer) e)) (ap (λ x. x .place) e), ap (λ x. x .allowance) e)
+
+pub numbered-check-one : {c d : calculus.Checked} {r : CheckedNumbers} {W O : List ℕ}
+    → Numbered-check c r W O
+    → Numbered-check d r W O
+    → c ≡ d
+numbered-check-one {c} {d} x y =
+    ap₂
+    (λ a (s : List ℕ × List ℕ). record { answer = a; work = s .0; output = s .1 })
+    (checked-numbers-injective (c .answer) (d .answer) (sym (x .numbers) ∙ y .numbers))
+    (ap₂ (λ w o. (w, o)) (sym (x .work) ∙ y .work) (sym (x .output) ∙ y .output))
+
+pub numbered-run-one : {c d : calculus.Ran} {r : RanNumbers} {W S : List ℕ} → Numbered-run c r W S → Numbered-run d r W S → c ≡ d
+numbered-run-one {c} {d} x y =
+    let same = ran-numbers-injective (c .answer) (d .answer) (c .allowance) (d .allowance) (sym (x .numbers) ∙ y .numbers) in
+    ap₂
+    (λ (a : Answer Stop × ℕ) (s : List ℕ × List ℕ). record { answer = a .0; allowance = a .1; work = s .0; state = s .1 })
+    (ap₂ (λ a n. (a, n)) (same .0) (same .1))
+    (ap₂ (λ w o. (w, o)) (sym (x .work) ∙ y .work) (sym (x .state) ∙ y .state))
+
+pub found-numbers-injective : (f g : FoundNumbers) → found-numbers f ≡ found-numbers g → f ≡ g
+found-numbers-injective f g e = ap₂ (λ s n. record { start = s; length = n }) (ap (λ x. x .start) e) (ap (λ x. x .extent) e)

@@ -1,47 +1,52 @@
--- Two runs of words of one list are the same over one word more if they are the same so far and at the next word; they are not the
--- same over one word more if the next words differ.
-use Prim.Native.Nat.{ℕ, _+_, _<_}
+-- Two lists are the same over one word more if they are the same so far and at the next word; they are not the same over one word
+-- more if the next words differ. Over all their words that decides whether they are the same; lists of different lengths are not.
+use Prim.Native.Nat.{ℕ, _+_, _≤_, _<_}
 use mathlib.Core.Bool.{Bool, true, false, true≢false}
 use mathlib.Core.List.{List, [], _∷_, _++_}
 use mathlib.Core.Logic.{_↔_}
-use mathlib.Core.Path.{_≡_, refl, sym, ap, _∙_}
+use mathlib.Core.Path.{_≡_, sym, ap, _∙_}
 use native.Mathlib.Numerals.{add-one}
 use native.Mathlib.Omega.{arith}
-use lib.ListN.{length, getD, take, drop, length-drop}
-use lib.Seq.{take-suc, take-take, getD-take, getD-drop}
+use lib.ListN.{length, getD, take}
+use lib.Seq.{take-suc, take-take, take-all, getD-take}
 
--- The answer says whether the `i` words from `a` on and those from `b` on are the same.
-abbrev pub Tells : List ℕ → ℕ → ℕ → ℕ → Bool → Type 0
-Tells ws a b i answer = (answer ≡ true) ↔ (take i (drop a ws) ≡ take i (drop b ws))
+-- The answer says whether the first `i` words of both are the same.
+abbrev pub Tells : List ℕ → List ℕ → ℕ → Bool → Type 0
+Tells x y i answer = (answer ≡ true) ↔ (take i x ≡ take i y)
 
-module _ (ws : List ℕ) (a b i : ℕ) where
-  same-before : take (i + 1) (drop a ws) ≡ take (i + 1) (drop b ws) → take i (drop a ws) ≡ take i (drop b ws)
-  same-before h =
-      let l = take-take i (i + 1) (drop a ws) (omega arith) in
-      let r = take-take i (i + 1) (drop b ws) (omega arith) in
-      sym l ∙ ap (take i) h ∙ r
+module _ (x y : List ℕ) where
+  module _ (i : ℕ) where
+    same-before : take (i + 1) x ≡ take (i + 1) y → take i x ≡ take i y
+    same-before h = sym (take-take i (i + 1) x (omega arith)) ∙ ap (take i) h ∙ take-take i (i + 1) y (omega arith)
 
-  same-at : take (i + 1) (drop a ws) ≡ take (i + 1) (drop b ws) → getD ws (a + i) 0 ≡ getD ws (b + i) 0
-  same-at h = sym (word a) ∙ ap (λ l. getD l i 0) h ∙ word b
-    where
-      word : (p : ℕ) → getD (take (i + 1) (drop p ws)) i 0 ≡ getD ws (p + i) 0
-      word p = getD-take (i + 1) (drop p ws) i 0 (omega arith) ∙ getD-drop p ws i 0
+    same-at : take (i + 1) x ≡ take (i + 1) y → getD x i 0 ≡ getD y i 0
+    same-at h = sym (word x) ∙ ap (λ l. getD l i 0) h ∙ word y
+      where
+        word : (l : List ℕ) → getD (take (i + 1) l) i 0 ≡ getD l i 0
+        word l = getD-take (i + 1) l i 0 (omega arith)
 
-  pub tells-more : {answer : Bool}
-      → a + i < length ws
-      → b + i < length ws
-      → getD ws (a + i) 0 ≡ getD ws (b + i) 0
-      → Tells ws a b i answer
-      → Tells ws a b (i + 1) answer
-  tells-more first second e t =
-      let x = more a (omega arith) in
-      let y = more b (omega arith) in (
-        λ h. x ∙ rw (t .0 h, e) (sym y),
-        λ h. t .1 (same-before h),
-      )
-    where
-      more : (p : ℕ) → p + i < length ws → take (i + 1) (drop p ws) ≡ take i (drop p ws) ++ (getD ws (p + i) 0 ∷ [])
-      more p h = rw (add-one i) (take-suc (drop p ws) i 0 (omega (arith, length-drop p ws)) ∙ rw (getD-drop p ws i 0) refl)
+    pub tells-more : {answer : Bool}
+        → i < length x
+        → i < length y
+        → getD x i 0 ≡ getD y i 0
+        → Tells x y i answer
+        → Tells x y (i + 1) answer
+    tells-more first second e t = (
+      λ h. more x first ∙ rw (t .0 h, e) (sym (more y second)),
+      λ h. t .1 (same-before h),
+    )
+      where
+        more : (l : List ℕ) → i < length l → take (i + 1) l ≡ take i l ++ (getD l i 0 ∷ [])
+        more l h = rw (add-one i) (take-suc l i 0 h)
 
-  pub tells-differing : (getD ws (a + i) 0 ≡ getD ws (b + i) 0 → ⊥) → Tells ws a b (i + 1) false
-  tells-differing n = (λ h. absurd (true≢false cc), λ h. absurd (n (same-at h)))
+    pub tells-differing : (getD x i 0 ≡ getD y i 0 → ⊥) → Tells x y (i + 1) false
+    tells-differing n = (λ h. absurd (true≢false cc), λ h. absurd (n (same-at h)))
+
+    pub tells-all : {answer : Bool} → length x ≤ i → length y ≤ i → Tells x y i answer → (answer ≡ true) ↔ (x ≡ y)
+    tells-all first second t = (
+      λ h. sym (take-all i x first) ∙ t .0 h ∙ take-all i y second,
+      λ h. t .1 (ap (take i) h),
+    )
+
+  pub tells-longer : (length y ≡ length x → ⊥) → (_≡_ {A = Bool} false true) ↔ (x ≡ y)
+  tells-longer n = (λ h. absurd (true≢false (sym h)), λ h. absurd (n (sym (ap length h))))

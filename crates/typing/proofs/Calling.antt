@@ -1,34 +1,28 @@
 -- Function and argument of an application, once both are typed: the function's type, a product, lies at `top`, and the argument's type
--- behind it. So its domain and its codomain lie behind the first word.
+-- behind it.
 use Prim.Native.Nat.{ℕ, suc, _+_, _-_, _≤_}
-use mathlib.Core.Bool.{Bool, true, false, not, true≢false}
 use mathlib.Core.List.{List}
-use mathlib.Core.Logic.{_↔_, _≢_}
-use mathlib.Core.Path.{_≡_, refl, sym, ap, subst, _∙_}
-use native.Mathlib.Nat.{add-assoc}
+use mathlib.Core.Logic.{_≢_}
+use mathlib.Core.Path.{_≡_, sym, ap, subst, _∙_}
 use native.Mathlib.Omega.{arith}
 use lib.ListN.{length, take, drop, getD}
-use lib.Seq.{take-all, drop-at, drop-drop, take-take}
+use lib.Seq.{take-take}
 use Rattle.calculus.specs.Term.{Term, app, pi, size}
 use Rattle.calculus.specs.Answer.{ok}
 use Rattle.calculus.specs.Words.{emit, words, Scoped, longest}
 use Rattle.calculus.specs.Meaning.{meaning, a-pi}
 use Rattle.calculus.specs.Rules.{Context}
 use Rattle.calculus.specs.Infer.{infer}
-use Rattle.calculus.proofs.Coding.{emit-append, emit-length, words-length}
 use Rattle.calculus.proofs.Scoping.{scoped-more}
-use Rattle.reduction.specs.Stepping.{CodesWithin}
-use Rattle.term.specs.Walk.{span}
-use Rattle.term.proofs.Walking.{span-emit}
 use Rattle.typing.specs.Inference.{Subject}
+use Rattle.typing.specs.Moving.{Product}
 use Rattle.typing.proofs.Nodes.{of-app}
-use Rattle.typing.proofs.Subjects.{behind, begun-words, part-words, first, second, kept, place-first, place-second}
+use Rattle.typing.proofs.Subjects.{behind, part-words, first, second, kept, place-first, place-second}
 use Rattle.typing.proofs.Rooms.{subject-shallow}
 use Rattle.typing.proofs.Types.{type-scoped, type-fits}
 use Rattle.typing.proofs.Passing.{Part}
 use Rattle.typing.proofs.Heads.{Headed, type-headed, type-meaning}
 use Rattle.typing.proofs.Written.{same-part}
-use Rattle.typing.proofs.Compared.{compared}
 
 -- Function `f` and argument `u` of an application at `p`.
 pub record Called (L : ℕ) (Γ : Context) (p : ℕ) (f u : Term) (places : List ℕ) (depth : ℕ) (work : List ℕ) (top n more m own : ℕ) (after places′ : List ℕ) : Type 0 where
@@ -40,7 +34,6 @@ pub record Called (L : ℕ) (Γ : Context) (p : ℕ) (f u : Term) (places : List
   pub read : n ≡ size f
   pub further : more ≡ size u
   pub long : m ≡ suc (size domain + size codomain)
-  pub own-long : own ≡ size type
   pub fits : m ≤ L
   pub own-fits : own ≤ L
   pub scoped : Scoped (suc (length Γ)) codomain
@@ -91,7 +84,6 @@ module _ {Γ : Context} {f u : Term} {term sub places : List ℕ} {depth : ℕ} 
         read = F .read;
         further = U .read;
         long = F .long ∙ ap size x;
-        own-long = U .long;
         fits = omega (arith, F .long, type-fits (first S of-app) L _ (F .found));
         own-fits = omega (arith, U .long, type-fits argument-subject L _ (U .found));
         scoped = subst (Scoped (length Γ)) x (type-scoped (first S of-app) L _ (F .found)) .1;
@@ -106,64 +98,16 @@ module _ {Γ : Context} {f u : Term} {term sub places : List ℕ} {depth : ℕ} 
         wide = U .wide ∙ F .wide;
       }
 
--- A part of what lies at `top`.
-inner : (l ws : List ℕ) (top m j k : ℕ) → take m (drop top l) ≡ ws → j + k ≤ m → take k (drop (top + j) l) ≡ take k (drop j ws)
-inner l ws top m j k x h =
-    ap (take k) (sym (drop-drop j top l))
-    ∙ same-part (take m (drop top l)) (drop top l) j k (sym (take-take (j + k) m (drop top l) h))
-    ∙ ap (λ r. take k (drop j r)) x
-
 module _ {L : ℕ} {Γ : Context} {p : ℕ} {f u : Term} {places : List ℕ} {depth : ℕ} {work : List ℕ} {top n more m own : ℕ} {after places′ : List ℕ}
     (C : Called L Γ p f u places depth work top n more m own after places′) where
-  -- What the function's type begins with.
-  pub domain-span : span (take (top + m - (top + 1)) (drop (top + 1) after)) 1 ≡ size (C .domain)
-  unfolding words emit
-  domain-span =
-      ap
-      (λ ws. span ws 1)
-      (inner after (words (pi (C .domain) (C .codomain))) top m 1 (top + m - (top + 1)) (C .lies) (omega (arith, C .long))
-      ∙ take-all
-      (top + m - (top + 1)) (emit (C .domain) (words (C .codomain)))
-      (omega (arith, C .long, emit-length (C .domain) (words (C .codomain)), words-length (C .codomain))))
-      ∙ span-emit (C .domain) (words (C .codomain))
-
-  module _ {d : ℕ} (x : d ≡ size (C .domain)) where
-    domain-words : take d (drop (top + 1) after) ≡ words (C .domain)
-    unfolding words emit
-    domain-words =
-        inner after (words (pi (C .domain) (C .codomain))) top m 1 d (C .lies) (omega (arith, C .long))
-        ∙ begun-words (C .domain) d (words (C .codomain)) refl x
-
-    pub codomain-words : take (m - 1 - d) (drop (top + 1 + d) after) ≡ words (C .codomain)
-    unfolding words emit
-    codomain-words =
-        ap (λ k. take (m - 1 - d) (drop k after)) (add-assoc top 1 d)
-        ∙ inner after (words (pi (C .domain) (C .codomain))) top m (1 + d) (m - 1 - d) (C .lies) (omega (arith, C .long))
-        ∙ ap
-        (take (m - 1 - d))
-        (sym (drop-drop d 1 (words (pi (C .domain) (C .codomain))))
-        ∙ ap (drop d) (emit-append (C .domain) (words (C .codomain)))
-        ∙ drop-at (words (C .domain)) (words (C .codomain)) d (words-length (C .domain) ∙ sym x))
-        ∙ take-all (m - 1 - d) (words (C .codomain)) (omega (arith, C .long, words-length (C .codomain)))
-
-    pub codomain-codes : {term sub : List ℕ}
-        → Subject Γ (app f u) term sub places depth
-        → L ≤ longest
-        → CodesWithin (take (m - 1 - d) (drop (top + 1 + d) after)) false
-    codomain-codes S h =
-        record {
-          term = C .codomain;
-          coded = codomain-words;
-          short = omega (arith, C .long, C .fits);
-          scoped = scoped-more (C .codomain) (omega (arith, S .around, subject-shallow S)) (C .scoped);
-          shut = λ z. absurd (true≢false cc);
-        }
-
-    -- The comparison of the argument's type with the domain.
-    pub compared-argument : {alike : Bool}
-        → own ≡ d
-        → (alike ≡ true) ↔ (take d (drop (top + 1) after) ≡ take d (drop (top + m) after))
-        → (not alike ≡ true → C .type ≢ C .domain) × (not alike ≡ false → C .type ≡ C .domain)
-    compared-argument y tells =
-        compared after (top + 1) (top + m) d (C .type) (C .domain) domain-words
-        (ap (λ k. take k (drop (top + m) after)) (sym y) ∙ C .type-lies) tells
+  -- What is asked of the function's type.
+  pub called-product : {term sub : List ℕ} → Subject Γ (app f u) term sub places depth → L ≤ longest → Product (take m (drop top after))
+  unfolding size
+  called-product S h =
+      record {
+        domain = C .domain;
+        codomain = C .codomain;
+        coded = C .lies;
+        short = omega (arith, C .long, C .fits);
+        scoped = scoped-more (C .codomain) (omega (arith, S .around, subject-shallow S)) (C .scoped);
+      }

@@ -1,14 +1,13 @@
 -- What a call writes into a part of the working slice, said of the whole slice: the part has room for as many words as the limit
 -- allows, and a store into the part is a store into the slice.
 use Prim.Native.Nat.{ℕ, _+_, _-_, _≤_}
-use mathlib.Core.Bool.{Bool}
 use mathlib.Core.List.{List, _++_}
 use mathlib.Core.Path.{_≡_, sym, ap, _∙_}
 use native.Mathlib.Omega.{arith}
 use lib.ListN.{length, take, drop, replicate, length-drop, length-replicate}
 use lib.Seq.{length-take-le}
 use Rattle.calculus.specs.Term.{Term}
-use Rattle.calculus.specs.Words.{words}
+use Rattle.calculus.specs.Words.{words, longest}
 use Rattle.calculus.specs.Step as calculus
 use Rattle.calculus.proofs.Coding.{words-length}
 use Rattle.reduction.specs.declared.copying.Room.{Room}
@@ -16,9 +15,8 @@ use Rattle.reduction.specs.declared.copying.Room.the-variants as room
 use Rattle.reduction.specs.declared.stepping.Stepped.{Stepped}
 use Rattle.reduction.specs.declared.stepping.Stepped.the-variants as stepped
 use Rattle.reduction.specs.Writing.{Writes}
-use Rattle.reduction.specs.Stepping.{CodesWithin, Steps}
+use Rattle.reduction.specs.Stepping.{Steps}
 use Rattle.typing.specs.Moving.{Puts, Moves}
-use Rattle.typing.proofs.Coded.{codes-part}
 use Rattle.typing.proofs.Stored.{stored-front, stored-part, stored}
 
 -- A term written at `top` into the first `top` + `limit` words.
@@ -57,16 +55,15 @@ moves (calculus.next x) work top limit n r part same room-for w =
       λ h. w .full (omega arith),
     )
 
--- A term's words, `count` from `from` on, copied to the front of an array that has room for the longest term.
-pub copied : (work : List ℕ) (from count : ℕ) {closed : Bool} {r : Room} {after : List ℕ}
+-- So many words from `from` on, copied to the front of an array that has room for the longest term.
+pub copied : (work : List ℕ) (from count : ℕ) {r : Room} {after : List ℕ}
     → from + count ≤ length work
-    → CodesWithin (take count (drop from work)) closed
+    → count ≤ longest
     → Writes (take (from + count - from) (drop from work)) (replicate 1024 0) 0 r after
     → take count after ≡ take count (drop from work)
-copied work from count {r} {after} inside K w =
+copied work from count {r} {after} inside few w =
     let n = from + count - from in
     let same : n ≡ count = omega arith in
-    let few = codes-part work from count inside K in
     let e = take n (drop from work) in
     let rest = length-drop from work in
     let many : length e ≡ n = length-take-le n (drop from work) (omega arith) in

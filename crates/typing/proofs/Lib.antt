@@ -21,6 +21,8 @@ pub mod Compared
 pub mod Applying
 pub mod Calling
 pub mod Putting
+pub mod Applied
 pub mod Binding
 pub mod Products
 pub mod Variables
+pub mod Maps

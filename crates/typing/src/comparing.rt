@@ -2,19 +2,19 @@
 ghost use mathlib.Core.Bool.{true};
 ghost use mathlib.Core.Logic.{_↔_};
 ghost use mathlib.Core.Path.{_≡_};
-ghost use Prim.Native.Nat.{_+_, _≤_};
-ghost use lib.ListN.{drop, length, take};
 
-// Whether the `count` words from `first` on and those from `second` on are the same. No early end, so that many words are
-// compared at once.
-pub fn same(words: &[u16], first: usize, second: usize, count: usize) -> bool
-    requires { ⌜ (first + count ≤ length (now words)) × (second + count ≤ length (now words)) ⌝ }
-    ensures { λ r. ⌜ (r ≡ true) ↔ (take count (drop first (now (words .entry))) ≡ take count (drop second (now (words .entry)))) ⌝ }
+// Whether both are the same words. No early end, so that many words are compared at once.
+pub(crate) fn same(first: &[u16], second: &[u16]) -> bool
+    ensures { λ r. ⌜ (r ≡ true) ↔ (now (first .entry) ≡ now (second .entry)) ⌝ }
 {
+    let count = first.len();
+    if second.len() != count {
+        return false;
+    }
     let mut alike = true;
     let mut i = 0;
     while i < count {
-        if words[first + i] != words[second + i] {
+        if first[i] != second[i] {
             alike = false;
         }
         i += 1;

@@ -1,10 +1,10 @@
 // The type of a subterm, in document 01's order ("Typing, in checking order") and under its names. The type found lies in the
 // working slice from `top` on; what lies before stays.
 use crate::comparing::same;
-use crate::moving::put_in;
+use crate::moving::Applied;
+use crate::moving::apply;
 use crate::moving::step_into;
 use crate::moving::step_type;
-use reduction::copying::Room;
 use reduction::copying::copy;
 use reduction::rewriting::raise;
 use reduction::stepping::Stepped;
@@ -23,7 +23,7 @@ ghost use Rattle.calculus.specs.Infer.{infer};
 ghost use Rattle.typing.specs.Inference.{Annotation, Asks, Asks₂, Raises, Tells, Tells₂, star-typed};
 
 // Typed with the length of the subterm and of its type, or refused.
-pub enum Inferred {
+pub(crate) enum Inferred {
     Typed(usize, usize),
     Refused(Refusal),
 }
@@ -85,26 +85,11 @@ fn application(
     let Inferred::Typed(more, own) = argument else {
         return argument;
     };
-    let first = top + 1;
-    let domain = span(&work[first..next]);
-    if own != domain {
-        return refused(Reason::WrongArgument, place);
-    }
-    if !same(work, first, next, domain) {
-        return refused(Reason::WrongArgument, place);
-    }
     let to = from + more;
-    match put_in(
-        &sub[from..to],
-        depth == 0,
-        work,
-        first + domain,
-        length - 1 - domain,
-        top,
-        limit,
-    ) {
-        Room::Full => refused(Reason::OverLimit, place),
-        Room::To(end) => Inferred::Typed(to, end - top),
+    match apply(&sub[from..to], depth == 0, work, top, length, own, limit) {
+        Applied::WrongArgument => refused(Reason::WrongArgument, place),
+        Applied::Full => refused(Reason::OverLimit, place),
+        Applied::To(count) => Inferred::Typed(to, count),
     }
 }
 
@@ -234,10 +219,8 @@ fn cast_up(
         }
         Stepped::To(count) => count,
     };
-    if count != length {
-        return refused(Reason::WrongCast, place);
-    }
-    if !same(work, top, next, length) {
+    let end = next + count;
+    if !same(&work[top..next], &work[next..end]) {
         return refused(Reason::WrongCast, place);
     }
     if limit < read {
@@ -301,7 +284,8 @@ fn recursion(
     }
     let next = top + length;
     raise(&sub[1..front], 1, work, next);
-    if !same(work, top, next, length) {
+    let end = next + length;
+    if !same(&work[top..next], &work[next..end]) {
         return refused(Reason::WrongRecursion, place);
     }
     copy(&sub[1..front], work, top);
@@ -317,7 +301,7 @@ fn narrow(place: usize) -> u16
 
 // The type of the subterm that `sub`, the end of `term`, begins with. `context` has the places of the annotations around it,
 // outermost first, of which there are `depth`.
-pub fn infer(
+pub(crate) fn infer(
     term: &[u16],
     sub: &[u16],
     context: &mut [u16; 64],

@@ -11,9 +11,9 @@ ghost use mathlib.Core.Path.{_≡_};
 ghost use Rattle.calculus.specs.Outcomes.{check};
 ghost use Rattle.typing.specs.Outcomes.{checked-of};
 
-pub mod comparing;
-pub mod inference;
-pub mod moving;
+mod comparing;
+mod inference;
+mod moving;
 
 // Typed with the length of the type, or refused.
 pub enum Checked {

@@ -22,7 +22,7 @@ begins : (c : tie.After-copy)
     take (a .count) (c .copy .last .1 .0) ≡ take (a .count) (drop (a .top) (a .work .now))
 begins c =
     let s = c .before .before .before .before .before in
-    copied (s .args .work .now) (s .args .top) (s .args .count) (s .pre .1) (s .pre .2) (c .copy .ensures)
+    copied (s .args .work .now) (s .args .top) (s .args .count) (s .pre .1) (short s) (c .copy .ensures)
 
 array-share-prefix-copied : tie.Need-array-share-prefix-copied
 array-share-prefix-copied c =

@@ -18,11 +18,10 @@ use Rattle.typing.proofs.Parts.{annotation-found, second-place, beside,
 use Rattle.typing.proofs.Moved.{moved-front, over-limit, rests}
 use Rattle.typing.proofs.Written.{wrote, written-type}
 use Rattle.typing.proofs.Casting.{up-annotation, up-body, up-rests, up-step-over, up-other, up-measured}
-use Rattle.typing.proofs.Compared.{longer}
 use Rattle.typing.proofs.inference.cast_up.Reads as cast-up
 use Rattle.typing.proofs.inference.+abstraction+application+cast_down+cast_up+infer+product+recursion+star_part.Lts-cast_up as cast-up-lts
 use Rattle.typing.proofs.inference.+abstraction+application+cast_down+cast_up+infer+product+recursion+star_part.Proof.Measures.{cast-up-at, cast-up-claims, part-asked}
-use Rattle.typing.proofs.inference.+abstraction+application+cast_down+cast_up+infer+product+recursion+star_part.Proof.CastUp.Known.{start-place, annotation-place, typed-annotation, reach, copied, both, long, room, moves, next-state, compared}
+use Rattle.typing.proofs.inference.+abstraction+application+cast_down+cast_up+infer+product+recursion+star_part.Proof.CastUp.Known.{start-place, annotation-place, typed-annotation, reach, copied, both, long, room, moves, next-state, room-next, compared}
 
 star-part-requires : (t : ℕ) → cast-up-lts.Need-star-part-requires (cast-up-claims t) (cast-up-at t) cast-up.Post
 star-part-requires t c κs =
@@ -77,60 +76,46 @@ returns-4 t c Γ a e S =
 
 returns-5 : (t : ℕ) → cast-up-lts.Need-returns-5 (cast-up-claims t) (cast-up-at t) cast-up.Post
 returns-5 t c Γ a e S =
-    let after-known-told2 = c .before .before .before .before .before .before .before .before .before .before in
-    let B = both t after-known-told2 Γ a e S in
-    let m = next-state t (c .before .before) Γ a e S in
-    turned (up-other B (m .state) (m .steps) (m .fits) (longer (m .state) (B .type) (m .long) (B .long) (c .before .if1 .taken))) (c .refused3 .ensures)
-
-same-requires : (t : ℕ) → cast-up-lts.Need-same-requires (cast-up-claims t) (cast-up-at t) cast-up.Post
-same-requires t c κs =
-    let after-step-into = c .before .before .before .before .before .before .before in
-    omega (arith, room t (after-step-into .before .before .before), after-step-into .step-into .kept .1 .1 .0)
+    let after-same = c .before .before in
+    let after-known-told3 = after-same .before .before .before .before in
+    let B = both t (after-known-told3 .before .before .before .before .before .before .before .before) Γ a e S in
+    let m = next-state t after-known-told3 Γ a e S in
+    turned (up-other B (m .state) (m .steps) (m .fits) (compared t after-same Γ a e S .0 (c .before .if1 .taken))) (c .refused3 .ensures)
 
 returns-6 : (t : ℕ) → cast-up-lts.Need-returns-6 (cast-up-claims t) (cast-up-at t) cast-up.Post
 returns-6 t c Γ a e S =
-    let after-known-told3 = c .before .before .before .before .before in
-    let after-known-told2 = after-known-told3 .before .before .before .before .before .before .before .before in
-    let B = both t after-known-told2 Γ a e S in
-    let m = next-state t after-known-told3 Γ a e S in
-    turned (up-other B (m .state) (m .steps) (m .fits) (compared t (c .before .before) Γ a e S .0 (c .before .if2 .taken))) (c .refused4 .ensures)
-
-returns-7 : (t : ℕ) → cast-up-lts.Need-returns-7 (cast-up-claims t) (cast-up-at t) cast-up.Post
-returns-7 t c Γ a e S =
-    let after-known-told3 = c .before .before .before .before .before .before in
-    let after-known-told2 = after-known-told3 .before .before .before .before .before .before .before .before in
-    let B = both t after-known-told2 Γ a e S in
+    let else1 = c .before .before in
+    let after-known-told3 = else1 .before .before .before .before .before in
+    let B = both t (after-known-told3 .before .before .before .before .before .before .before .before) Γ a e S in
     let m = next-state t after-known-told3 Γ a e S in
     turned
-    (up-measured B (m .state) (m .steps) (m .fits) (compared t (c .before .before .before) Γ a e S .1 (c .before .before .if2 .left)) ∙ over _ a (omega (arith, B .read)))
-    (c .refused5 .ensures)
+    (up-measured B (m .state) (m .steps) (m .fits) (compared t (else1 .before) Γ a e S .1 (else1 .if1 .left)) ∙ over _ a (omega (arith, B .read)))
+    (c .refused4 .ensures)
 
 part-copy-end : (t : ℕ) → cast-up-lts.Need-part-copy-end (cast-up-claims t) (cast-up-at t) cast-up.Post
-part-copy-end t c = omega (arith, reach t (annotation-place t (c .before .before .before .before .before .before .before .before .before .before .before .before .before)))
+part-copy-end t c = omega (arith, reach t (annotation-place t (c .before .before .before .before .before .before .before .before .before .before .before .before .before .before)))
 
 copy-requires : (t : ℕ) → cast-up-lts.Need-copy-requires (cast-up-claims t) (cast-up-at t) cast-up.Post
-copy-requires t c κs =
-    let after-step-into = c .before .before .before .before .before .before .before .before .before .before .before .before in
-    omega (arith, room t (after-step-into .before .before .before), after-step-into .step-into .kept .1 .1 .0)
+copy-requires t c κs = omega (arith, room-next t (c .before .before .before .before .before .before .before .before))
 
-add-t19 : (t : ℕ) → cast-up-lts.Need-add-t19 (cast-up-claims t) (cast-up-at t) cast-up.Post
-add-t19 t c =
-    let after-known-told2 = c .before .before .before .before .before .before .before .before .before .before .before .before .before .before .before .before .before .before in
+add-t20 : (t : ℕ) → cast-up-lts.Need-add-t20 (cast-up-claims t) (cast-up-at t) cast-up.Post
+add-t20 t c =
+    let after-known-told2 = c .before .before .before .before .before .before .before .before .before .before .before .before .before .before .before .before .before .before .before in
     let P = start-place t (annotation-place t after-known-told2) .pre .1 in
     omega (arith, both-reach (P .3) of-castup (both t after-known-told2 (P .0) (P .1) (P .2) (P .3)))
 
-same-length-8 : (t : ℕ) → cast-up-lts.Need-same-length-8 (cast-up-claims t) (cast-up-at t) cast-up.Post
-same-length-8 t c =
-    let after-step-into = c .before .before .before .before .before .before .before .before .before .before .before .before .before .before .before in
+same-length-7 : (t : ℕ) → cast-up-lts.Need-same-length-7 (cast-up-claims t) (cast-up-at t) cast-up.Post
+same-length-7 t c =
+    let after-step-into = c .before .before .before .before .before .before .before .before .before .before .before .before .before .before .before .before in
     c .before .before .copy .kept .1 .0 ∙ after-step-into .step-into .kept .1 .1 .0 ∙ long t (after-step-into .before .before .before)
 
-returns-8 : (t : ℕ) → cast-up-lts.Need-returns-8 (cast-up-claims t) (cast-up-at t) cast-up.Post
+returns-7 : (t : ℕ) → cast-up-lts.Need-returns-7 (cast-up-claims t) (cast-up-at t) cast-up.Post
 unfolding size
-returns-8 t c Γ a e S =
-    let else3 = c .before .before .before .before .before in
-    let else2 = else3 .before in
-    let after-same = else2 .before in
-    let after-known-told3 = after-same .before .before .before in
+returns-7 t c Γ a e S =
+    let else2 = c .before .before .before .before .before in
+    let else1 = else2 .before in
+    let after-same = else1 .before in
+    let after-known-told3 = after-same .before .before .before .before in
     let after-step-into = after-known-told3 .before .before .before .before .before in
     let after-known-told2 = after-step-into .before .before .before in
     let after-known-told = annotation-place t after-known-told2 in
@@ -139,9 +124,9 @@ returns-8 t c Γ a e S =
     let m = next-state t after-known-told3 Γ a e S in
     let r = room t after-known-told2 in
     let k = after-step-into .step-into .kept .1 .1 .0 in
-    let fits : size a ≤ start .args .limit = omega (arith, B .read, else3 .if3 .left) in
+    let fits : size a ≤ start .args .limit = omega (arith, B .read, else2 .if2 .left) in
     found
-    (up-measured B (m .state) (m .steps) (m .fits) (compared t after-same Γ a e S .1 (else2 .if2 .left)) ∙ fitting _ a fits)
+    (up-measured B (m .state) (m .steps) (m .fits) (compared t after-same Γ a e S .1 (else1 .if1 .left)) ∙ fitting _ a fits)
     (written-type (after-step-into .step-into .last .1 .1 .0) a (omega (arith, B .read, B .further)) (B .read)
     (wrote a (c .before .before .copy .ensures) (copied t after-known-told Γ a e S) (omega arith)) (omega arith)
     (moved-front (start .args .top) m (omega arith) ∙ B .front) (B .context) (B .wide))
@@ -156,6 +141,8 @@ cast-up-part M t =
     (λ c. search needs) (λ c. search needs) (returns-2 t) (λ c. omega (arith, room t c)) (λ c. search needs) (λ c. search needs)
     (λ c. omega (arith, reach t (annotation-place t c))) (step-into-requires t) (λ c κs. search needs) (λ c. search needs)
     (returns-3 t) (λ c. search needs) (λ c κs. search needs) (λ c. search needs) (returns-4 t) (λ c. search needs)
-    (λ c κs. search needs) (λ c. search needs) (returns-5 t) (same-requires t) (λ c κs. search needs) (λ c. search needs)
-    (returns-6 t) (λ c κs. search needs) (λ c. search needs) (returns-7 t) (λ c. search needs) (λ c. search needs)
-    (part-copy-end t) (copy-requires t) (add-t19 t) (same-length-8 t) (returns-8 t)
+    (λ c. omega (arith, room-next t c)) (λ c. omega (arith, room-next t c)) (λ c. omega arith) (λ c. omega arith)
+    (λ c. omega (arith, room-next t (c .before))) (λ c. omega (arith, room-next t (c .before .before))) (λ c. omega arith)
+    (λ c. omega arith) (λ c. omega (arith, room-next t (c .before .before))) (λ c κs. search needs) (λ c κs. search needs)
+    (λ c. search needs) (returns-5 t) (λ c κs. search needs) (λ c. search needs) (returns-6 t) (λ c. search needs)
+    (λ c. search needs) (part-copy-end t) (copy-requires t) (add-t20 t) (same-length-7 t) (returns-7 t)

@@ -33,14 +33,13 @@ use Rattle.typing.proofs.inference.star_part.Reads as star-part
 use Rattle.typing.proofs.inference.+abstraction+application+cast_down+cast_up+infer+product+recursion+star_part.Lts-star_part as star-part-lts
 use Rattle.reduction.proofs.copying.copy.Reads as copy-reads
 use Rattle.reduction.proofs.rewriting.raise.Reads as raise-reads
-use Rattle.term.proofs.walk.span.Reads as span-reads
 use Rattle.term.proofs.word.classify.Reads as classify-reads
 use Rattle.term.proofs.word.wide.Reads as wide-reads
 use Rattle.typing.proofs.comparing.same.Reads as same-reads
 use Rattle.typing.proofs.inference.narrow.Reads as narrow-reads
 use Rattle.typing.proofs.inference.refused.Reads as refused-reads
 use Rattle.typing.proofs.inference.variable.Reads as variable-reads
-use Rattle.typing.proofs.moving.put_in.Reads as put-in-reads
+use Rattle.typing.proofs.moving.apply.Reads as apply-reads
 use Rattle.typing.proofs.moving.step_into.Reads as step-into-reads
 use Rattle.typing.proofs.moving.step_type.Reads as step-type-reads
 
@@ -98,7 +97,7 @@ abbrev pub abstraction-claims : ℕ → abstraction-lts.Claims
 abstraction-claims t = (star-part-below t, star-part.Post, narrow-reads.Asked, narrow-reads.Learnt, infer-below t, infer.Post, refused-reads.Asked, refused-reads.Learnt, copy-reads.Asked, copy-reads.Learnt)
 
 abbrev pub application-claims : ℕ → application-lts.Claims
-application-claims t = (infer-below t, infer.Post, classify-reads.Asked, classify-reads.Learnt, refused-reads.Asked, refused-reads.Learnt, span-reads.Asked, span-reads.Learnt, same-reads.Asked, same-reads.Learnt, put-in-reads.Asked, put-in-reads.Learnt)
+application-claims t = (infer-below t, infer.Post, classify-reads.Asked, classify-reads.Learnt, refused-reads.Asked, refused-reads.Learnt, apply-reads.Asked, apply-reads.Learnt)
 
 abbrev pub cast-down-claims : ℕ → cast-down-lts.Claims
 cast-down-claims t = (infer-below t, infer.Post, step-type-reads.Asked, step-type-reads.Learnt, refused-reads.Asked, refused-reads.Learnt)

@@ -25,7 +25,7 @@ use Rattle.typing.proofs.Binding.{mu-annotation, mu-body, mu-other, mu-
 use Rattle.typing.proofs.inference.recursion.Reads as recursion
 use Rattle.typing.proofs.inference.+abstraction+application+cast_down+cast_up+infer+product+recursion+star_part.Lts-recursion as recursion-lts
 use Rattle.typing.proofs.inference.+abstraction+application+cast_down+cast_up+infer+product+recursion+star_part.Proof.Measures.{recursion-at, recursion-claims, part-asked}
-use Rattle.typing.proofs.inference.+abstraction+application+cast_down+cast_up+infer+product+recursion+star_part.Proof.Recursion.Known.{start-place, annotation-place, typed-annotation, reach, copied, both, long, room, behind-type, compared}
+use Rattle.typing.proofs.inference.+abstraction+application+cast_down+cast_up+infer+product+recursion+star_part.Proof.Recursion.Known.{start-place, annotation-place, typed-annotation, reach, copied, both, long, room, behind-type, room-raised, compared}
 
 star-part-requires : (t : ℕ) → recursion-lts.Need-star-part-requires (recursion-claims t) (recursion-at t) recursion.Post
 star-part-requires t c κs =
@@ -73,31 +73,24 @@ raise-requires t c κs =
     let r = room t (c .before .before .before) in
     (omega arith, codes-whole K, omega (arith, codes-short K), codes-plain K, omega arith)
 
-same-requires : (t : ℕ) → recursion-lts.Need-same-requires (recursion-claims t) (recursion-at t) recursion.Post
-same-requires t c κs =
-    let after-raise = c .before .before .before in
-    omega (arith, room t (after-raise .before .before .before .before), after-raise .raise .kept .1 .1 .0)
-
 returns-4 : (t : ℕ) → recursion-lts.Need-returns-4 (recursion-claims t) (recursion-at t) recursion.Post
 returns-4 t c Γ a e S =
-    let after-known-told2 = c .before .before .before .before .before .before .before .before .before .before in
+    let after-known-told2 = c .before .before .before .before .before .before .before .before .before .before .before .before in
     let B = both t after-known-told2 Γ a e S in
     turned (mu-other B (λ x. compared t (c .before .before) Γ a e S .0 (c .before .if2 .taken) (sym x))) (c .refused2 .ensures)
 
 copy-requires : (t : ℕ) → recursion-lts.Need-copy-requires (recursion-claims t) (recursion-at t) recursion.Post
-copy-requires t c κs =
-    let after-raise = c .before .before .before .before .before .before .before in
-    omega (arith, room t (after-raise .before .before .before .before), after-raise .raise .kept .1 .1 .0)
+copy-requires t c κs = omega (arith, room-raised t (c .before .before .before .before .before .before .before .before .before))
 
-add-t31 : (t : ℕ) → recursion-lts.Need-add-t31 (recursion-claims t) (recursion-at t) recursion.Post
-add-t31 t c =
-    let after-known-told2 = c .before .before .before .before .before .before .before .before .before .before .before .before .before .before in
+add-t32 : (t : ℕ) → recursion-lts.Need-add-t32 (recursion-claims t) (recursion-at t) recursion.Post
+add-t32 t c =
+    let after-known-told2 = c .before .before .before .before .before .before .before .before .before .before .before .before .before .before .before .before in
     let P = start-place t (annotation-place t after-known-told2) .pre .1 in
     omega (arith, both-reach (P .3) of-mu (both t after-known-told2 (P .0) (P .1) (P .2) (P .3)))
 
 same-length-5 : (t : ℕ) → recursion-lts.Need-same-length-5 (recursion-claims t) (recursion-at t) recursion.Post
 same-length-5 t c =
-    let after-raise = c .before .before .before .before .before .before .before .before .before .before in
+    let after-raise = c .before .before .before .before .before .before .before .before .before .before .before .before in
     c .before .before .copy .kept .1 .0 ∙ after-raise .raise .kept .1 .1 .0 ∙ long t (after-raise .before .before .before .before)
 
 returns-5 : (t : ℕ) → recursion-lts.Need-returns-5 (recursion-claims t) (recursion-at t) recursion.Post
@@ -105,7 +98,7 @@ unfolding size
 returns-5 t c Γ a e S =
     let else2 = c .before .before .before .before .before in
     let after-same = else2 .before in
-    let after-raise = after-same .before .before .before .before in
+    let after-raise = after-same .before .before .before .before .before .before in
     let else1 = after-raise .before .before .before in
     let after-known-told2 = else1 .before in
     let after-body = after-known-told2 .before in
@@ -138,6 +131,9 @@ recursion-part M t =
     (λ c. search needs) (λ c. search needs) (infer-requires t) (λ c. search needs) (λ c. search needs) (λ c. search needs)
     (returns-2 t) (λ c κs. search needs) (λ c. search needs) (returns-3 t) (λ c. omega (arith, room t (c .before)))
     (λ c. search needs) (λ c. search needs) (λ c. omega (arith, reach t (annotation-place t (c .before)))) (raise-requires t)
-    (same-requires t) (λ c κs. search needs) (λ c. search needs) (returns-4 t) (λ c. search needs) (λ c. search needs)
-    (λ c. omega (arith, reach t (annotation-place t (c .before .before .before .before .before .before .before .before .before))))
-    (copy-requires t) (add-t31 t) (same-length-5 t) (returns-5 t)
+    (λ c. omega (arith, room-raised t (c .before .before))) (λ c. omega (arith, room-raised t (c .before .before))) (λ c. omega arith)
+    (λ c. omega arith) (λ c. omega (arith, room-raised t (c .before .before .before)))
+    (λ c. omega (arith, room-raised t (c .before .before .before .before))) (λ c. omega arith) (λ c. omega arith)
+    (λ c. omega (arith, room-raised t (c .before .before .before .before))) (λ c κs. search needs) (λ c κs. search needs)
+    (λ c. search needs) (returns-4 t) (λ c. search needs) (λ c. search needs)
+    (λ c. omega (arith, reach t (annotation-place t (c .before .before .before .before .before .before .before .before .before .before .before)))) (copy-requires t) (add-t32 t) (same-length-5 t) (returns-5 t)

@@ -1,20 +1,19 @@
 -- What is known at the later places of `application`, from the answers up to there. Once `infer` has answered for the function,
--- the words and the room reach beyond it; once it has for the argument too, both are typed. The walk over the function's type
--- measures the domain. If the comparison finds the argument's type there, the application's type is the codomain with the
--- argument put in, and that is what was written.
+-- the words and the room reach beyond it; once it has for the argument too, both are typed. So the helper is handed a product, an
+-- argument and its type; where that is the domain, the application's type is the codomain with the argument put in.
 use Prim.Native.Nat.{ℕ, _+_, _-_, _*_, _≤_, _<_, _^_}
 use mathlib.Core.Path.{_≡_, sym, ap, _∙_}
 use native.Mathlib.Omega.{arith}
 use lib.ListN.{length}
-use Rattle.calculus.specs.Term.{Term, app, size, substitute}
+use Rattle.calculus.specs.Term.{Term, app, substitute}
 use Rattle.calculus.specs.Words.{longest}
 use Rattle.calculus.specs.Rules.{Context}
 use Rattle.calculus.specs.Infer.{infer, measure}
 use Rattle.term.specs.Word.{meaning-of}
 use Rattle.typing.specs.Inference.{Subject}
-use Rattle.typing.specs.Moving.{Puts}
+use Rattle.typing.specs.Moving.{Applies}
 use Rattle.typing.proofs.Applying.{right}
-use Rattle.typing.proofs.Calling.{Called, called, argument-subject, argument-words, domain-span, codomain-words, compared-argument}
+use Rattle.typing.proofs.Calling.{Called, called, argument-subject, argument-words}
 use Rattle.typing.proofs.Passing.{Part, typed}
 use Rattle.typing.proofs.Rooms.{room-two}
 use Rattle.typing.proofs.Subjects.{behind, first, subject-parts}
@@ -100,66 +99,40 @@ long t c =
     c .before .before .before .before .before .infer2 .kept .1 .1 .1 .1 .0
     ∙ function-place t c .before .before .before .before .infer .kept .1 .1 .1 .1 .0
 
--- The words up to the end of the argument, the room up to its type, and a first word of the function's type.
+-- The words reach to the end of the argument.
 pub reach-both : (t : ℕ) (c : application-lts.After-known-told2 (application-claims t) (application-at t) application.Post)
-    → let function = function-place t c .function .given .0 in
-    let start = start-place t (function-place t c) in
-    Reach (1 + function .0 + c .before .argument .given .0 .0) (length (start .args .sub .now)) (start .args .top + function .1 .0) (length (start .args .work .now))
-    × (1 ≤ function .1 .0)
+    → let start = start-place t (function-place t c) in
+    (1 + function-place t c .function .given .0 .0 + c .before .argument .given .0 .0 ≤ length (start .args .sub .now))
+    × (length (start .args .sub .now) ≤ longest)
 reach-both t c =
-    let start = start-place t (function-place t c) in
-    let P = start .pre .1 in
-    let F = reach t (c .before .before .before .before .before .before .before .before .before) in
-    let C = calls t c (P .0) (P .1) (P .2) (P .3) in (
-      record {
-        within = omega (arith, subject-parts (P .3) of-app, C .read, C .further);
-        short = F .short;
-        fits = F .fits;
-        small = F .small;
-      },
-      omega (arith, C .long),
-    )
+    let P = start-place t (function-place t c) .pre .1 in
+    let C = calls t c (P .0) (P .1) (P .2) (P .3) in
+    omega (arith, subject-parts (P .3) of-app, C .read, C .further, P .3 .within, P .3 .short)
 
--- The walk measures the domain.
-pub domain-long : (t : ℕ) (c : application-lts.After-span (application-claims t) (application-at t) application.Post) (Γ : Context) (f u : Term)
+-- What the helper tells of the application.
+pub applies : (t : ℕ) (c : application-lts.After-apply (application-claims t) (application-at t) application.Post) (Γ : Context) (f u : Term)
     → let after-argument = c .before .before .before in
     let start = start-place t (function-place t after-argument) in
     (S : Node t start Γ f u)
-    → c .span .result ≡ size (calls t after-argument Γ f u S .domain)
-domain-long t c Γ f u S = c .span .ensures .0 ∙ domain-span (calls t (c .before .before .before) Γ f u S)
-
--- If the argument's type is the domain, the type is the codomain with the argument put in, measured.
-pub measured : (t : ℕ) (c : application-lts.Else2 (application-claims t) (application-at t) application.Post) (Γ : Context) (f u : Term)
-    → let after-argument = c .before .before .before .before .before .before .before in
-    let start = start-place t (function-place t after-argument) in
-    (S : Node t start Γ f u)
-    → let p = length (start .args .term .now) - length (start .args .sub .now) in
-    infer (start .args .limit) Γ p (app f u) ≡ measure (start .args .limit) p (substitute 0 u (calls t after-argument Γ f u S .codomain))
-measured t c Γ f u S =
-    let after-span = c .before .before .before .before in
-    let C = calls t (after-span .before .before .before) Γ f u S in
-    right _ Γ _ f u (C .function) (C .argument)
-    (compared-argument C (domain-long t after-span Γ f u S) (c .before .before .before .if1 .left) (c .before .same .ensures) .1 (c .if2 .left))
-
--- That is what is written.
-pub puts : (t : ℕ) (c : application-lts.After-put-in (application-claims t) (application-at t) application.Post) (Γ : Context) (f u : Term)
-    → let after-argument = c .before .before .before .before .before .before .before .before .before .before in
-    let start = start-place t (function-place t after-argument) in
-    (S : Node t start Γ f u)
-    → Puts (substitute 0 u (calls t after-argument Γ f u S .codomain))
-    (after-argument .before .before .before .before .before .infer2 .last .1 .1 .1 .1 .0) (start .args .top) (start .args .limit)
-    (c .put-in .result) (c .put-in .last .1 .1 .0)
-puts t c Γ f u S =
-    let after-span = c .before .before .before .before .before .before .before in
-    let after-argument = after-span .before .before .before in
+    → let C = calls t after-argument Γ f u S in
+    Applies (C .domain) (C .codomain) u (C .type) (after-argument .before .before .before .before .before .infer2 .last .1 .1 .1 .1 .0)
+    (start .args .top) (start .args .limit) (c .apply .result) (c .apply .last .1 .1 .0)
+applies t c Γ f u S =
+    let after-argument = c .before .before .before in
     let function = typed-function t (function-place t after-argument) Γ f u S in
     let C = calls t after-argument Γ f u S in
-    c .put-in .ensures
-    (C .codomain) u (codomain-words C (domain-long t after-span Γ f u S))
-    (argument-words S _ function (C .further))
+    c .apply .ensures (C .domain) (C .codomain) u (C .type) (C .lies) (argument-words S _ function (C .further)) (C .type-lies)
 
--- It is still as long once the codomain is written.
-pub long-put : (t : ℕ) (c : application-lts.After-put-in (application-claims t) (application-at t) application.Post)
-    → length (c .put-in .last .1 .1 .0) ≡ length (start-place t (function-place t (c .before .before .before .before .before .before .before .before .before .before)) .args .work .now)
-long-put t c =
-    c .put-in .kept .1 .1 .0 ∙ long t (c .before .before .before .before .before .before .before .before .before .before)
+-- If the argument's type is the domain, the type is the codomain with the argument put in, measured.
+pub measured : (t : ℕ) (c : application-lts.After-known-told2 (application-claims t) (application-at t) application.Post) (Γ : Context) (f u : Term)
+    → let start = start-place t (function-place t c) in
+    (S : Node t start Γ f u)
+    → calls t c Γ f u S .type ≡ calls t c Γ f u S .domain
+    → let p = length (start .args .term .now) - length (start .args .sub .now) in
+    infer (start .args .limit) Γ p (app f u) ≡ measure (start .args .limit) p (substitute 0 u (calls t c Γ f u S .codomain))
+measured t c Γ f u S alike = let C = calls t c Γ f u S in right _ Γ _ f u (C .function) (C .argument) alike
+
+-- The slice is still as long once the codomain is written.
+pub long-applied : (t : ℕ) (c : application-lts.After-apply (application-claims t) (application-at t) application.Post)
+    → length (c .apply .last .1 .1 .0) ≡ length (start-place t (function-place t (c .before .before .before)) .args .work .now)
+long-applied t c = c .apply .kept .1 .1 .0 ∙ long t (c .before .before .before)

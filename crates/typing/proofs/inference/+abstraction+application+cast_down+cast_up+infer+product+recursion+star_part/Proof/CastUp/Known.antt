@@ -3,7 +3,7 @@
 -- there is room behind the body's type, since no call changes the slice's length. What the step writes there is the annotation's
 -- next state, and the comparison says whether that is the body's type.
 use Prim.Native.Nat.{ℕ, _+_, _-_, _*_, _≤_, _<_, _^_}
-use mathlib.Core.Path.{_≡_, sym, _∙_}
+use mathlib.Core.Path.{_≡_, _∙_}
 use mathlib.Core.Bool.{true, false, not}
 use mathlib.Core.Logic.{_≢_}
 use native.Mathlib.Omega.{arith}
@@ -123,17 +123,31 @@ pub next-state : (t : ℕ) (c : cast-up-lts.After-known-told3 (cast-up-claims t)
     (start .args .limit) (c .before .count .given .0 .0) (after-step-into .step-into .last .1 .1 .0)
 next-state t c Γ a e S = moved _ _ _ _ _ (step a) (moves t (c .before .before .before .before .before) Γ a e S) (c .before .count .given .1)
 
+-- It lies within the slice.
+pub room-next : (t : ℕ) (c : cast-up-lts.After-known-told3 (cast-up-claims t) (cast-up-at t) cast-up.Post)
+    → let after-step-into = c .before .before .before .before .before in
+    let after-known-told2 = after-step-into .before .before .before in
+    let start = start-place t (annotation-place t after-known-told2) in
+    (start .args .top + after-known-told2 .before .body .given .0 .1 .0 + c .before .count .given .0 .0 ≤ length (after-step-into .step-into .last .1 .1 .0))
+    × (length (after-step-into .step-into .last .1 .1 .0) * 2 < 2 ^ 63)
+room-next t c =
+    let after-step-into = c .before .before .before .before .before in
+    let after-known-told2 = after-step-into .before .before .before in
+    let P = start-place t (annotation-place t after-known-told2) .pre .1 in
+    let m = next-state t c (P .0) (P .1) (P .2) (P .3) in
+    omega (arith, room t after-known-told2, m .long, m .fits, after-step-into .step-into .kept .1 .1 .0)
+
 -- Whether that is the body's type.
 pub compared : (t : ℕ) (c : cast-up-lts.After-same (cast-up-claims t) (cast-up-at t) cast-up.Post) (Γ : Context) (a e : Term)
-    → let after-known-told2 = c .before .before .before .before .before .before .before .before .before .before .before in
+    → let after-known-told3 = c .before .before .before .before in
+    let after-known-told2 = after-known-told3 .before .before .before .before .before .before .before .before in
     let start = start-place t (annotation-place t after-known-told2) in
     (S : Node t start Γ a e)
-    → (not (c .same .result) ≡ true → next-state t (c .before .before .before) Γ a e S .state ≢ both t after-known-told2 Γ a e S .type)
-    × (not (c .same .result) ≡ false → next-state t (c .before .before .before) Γ a e S .state ≡ both t after-known-told2 Γ a e S .type)
+    → (not (c .same .result) ≡ true → next-state t after-known-told3 Γ a e S .state ≢ both t after-known-told2 Γ a e S .type)
+    × (not (c .same .result) ≡ false → next-state t after-known-told3 Γ a e S .state ≡ both t after-known-told2 Γ a e S .type)
 compared t c Γ a e S =
-    let after-known-told2 = c .before .before .before .before .before .before .before .before .before .before .before in
+    let after-known-told3 = c .before .before .before .before in
+    let after-known-told2 = after-known-told3 .before .before .before .before .before .before .before .before in
     let B = both t after-known-told2 Γ a e S in
-    let m = next-state t (c .before .before .before) Γ a e S in
-    let r = room t after-known-told2 in
-    let as-long = sym (c .before .before .if1 .left) ∙ m .long in
-    compared-behind _ _ _ (m .state) (B .type) (B .lies) (m .stored) as-long (omega arith) (c .same .ensures)
+    let m = next-state t after-known-told3 Γ a e S in
+    compared-behind _ _ _ _ (m .state) (B .type) (B .lies) (m .stored) (m .long) (omega (arith, room t after-known-told2, m .long, m .fits)) (c .same .ensures)

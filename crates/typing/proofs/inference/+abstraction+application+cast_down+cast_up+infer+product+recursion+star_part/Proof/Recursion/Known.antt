@@ -127,19 +127,27 @@ behind-type t c Γ a e S =
     wrote (raise 1 0 a) (c .raise .ensures) (ap (raised 1) (copied t after-known-told Γ a e S) ∙ raised-words 1 a)
     (omega (arith, room t after-known-told2, B .read, c .before .before .before .if1 .left, raise-size 1 0 a))
 
+-- It lies within the slice.
+pub room-raised : (t : ℕ) (c : recursion-lts.After-raise (recursion-claims t) (recursion-at t) recursion.Post)
+    → let after-body = c .before .before .before .before .before in
+    let start = start-place t (after-body .before .before .before .before .before .before .before .before .before) in
+    (start .args .top + after-body .body .given .0 .1 .0 + after-body .body .given .0 .1 .0 ≤ length (c .raise .last .1 .1 .0))
+    × (length (c .raise .last .1 .1 .0) * 2 < 2 ^ 63)
+room-raised t c = omega (arith, room t (c .before .before .before .before), c .raise .kept .1 .1 .0)
+
 -- Whether that is the body's type.
 pub compared : (t : ℕ) (c : recursion-lts.After-same (recursion-claims t) (recursion-at t) recursion.Post) (Γ : Context) (a e : Term)
-    → let after-known-told2 = c .before .before .before .before .before .before .before .before in
+    → let after-known-told2 = c .before .before .before .before .before .before .before .before .before .before in
     let start = start-place t (annotation-place t after-known-told2) in
     (S : Node t start Γ a e)
     → (not (c .same .result) ≡ true → raise 1 0 a ≢ both t after-known-told2 Γ a e S .type)
     × (not (c .same .result) ≡ false → raise 1 0 a ≡ both t after-known-told2 Γ a e S .type)
 compared t c Γ a e S =
-    let after-raise = c .before .before .before .before in
+    let after-raise = c .before .before .before .before .before .before in
     let else1 = after-raise .before .before .before in
     let after-known-told2 = else1 .before in
     let B = both t after-known-told2 Γ a e S in
     let x = behind-type t after-raise Γ a e S in
     let r = room t after-known-told2 in
     let as-long = else1 .if1 .left ∙ B .read ∙ sym (raise-size 1 0 a) in
-    compared-behind _ _ _ (raise 1 0 a) (B .type) (B .lies) x as-long (omega arith) (c .same .ensures)
+    compared-behind _ _ _ _ (raise 1 0 a) (B .type) (B .lies) x as-long (omega arith) (c .same .ensures)
