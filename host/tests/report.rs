@@ -70,8 +70,8 @@ fn every_stored_report() {
     }
 }
 
-/// The lengths at the bounds, every answer but 1 to 3, which the program's own slices shut out, and every end but 3, which no accepted
-/// term has.
+/// The lengths at the bounds, every answer but 1 to 3, which the program's own slices shut out, and every end but 3, which no
+/// accepted term has.
 #[test]
 fn stored_reports_cover_the_bounds() {
     let numbers = |name: &str| -> BTreeSet<u32> {

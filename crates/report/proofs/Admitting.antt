@@ -1,5 +1,5 @@
--- The test of the number of bytes: what it refuses is refused as a length that is not allowed, and otherwise the words are judged. As
--- every number over 2,048 is refused alike, no byte behind the first 2,049 changes a report.
+-- The test of the number of bytes: what it refuses is refused as a length that is not allowed, and otherwise the words are judged.
+-- As every number over 2,048 is refused alike, no byte behind the first 2,049 changes a report.
 use Prim.Native.Nat.{ℕ, _%_, _≤_, _<_}
 use mathlib.Core.List.{List}
 use mathlib.Core.Path.{_≡_, refl, sym, ap, _∙_}
@@ -8,8 +8,12 @@ use native.Mathlib.Decide.{decLe}
 use native.Mathlib.Omega.{arith}
 use lib.ListN.{length, take, length-take}
 use lib.Seq.{take-all}
-use Rattle.calculus.specs.Answer.{refused, _>>=_, _>>_, require, length-not-allowed}
+use Rattle.calculus.specs.Term.{Term}
+use Rattle.calculus.specs.Answer.{Answer, refused, _>>=_, _>>_, require, number, length-not-allowed}
+use Rattle.calculus.specs.Run.{Ended}
+use Rattle.calculus.specs.Outcomes.{begun}
 use Rattle.report.specs.Report.{pairs, judged, outcome, told, printed, report-of, Enough}
+use Rattle.report.specs.Shown.{Tells}
 
 pub over : (bs : List ℕ) → 2048 < length bs → outcome bs ≡ refused length-not-allowed 0
 unfolding outcome require _>>_ _>>=_
@@ -18,6 +22,13 @@ over bs h = rw (lt-leb (length bs) 2048 h) refl
 pub odd : (bs : List ℕ) → length bs ≤ 2048 → (length bs % 2 ≡ 0 → ⊥) → outcome bs ≡ refused length-not-allowed 0
 unfolding outcome require _>>_ _>>=_
 odd bs h n = rw (le-leb (length bs) 2048 h, ne-eqb (length bs % 2) 0 n) refl
+
+-- The findings of such a refusal.
+pub not-allowed : (x : Answer (Term × Ended)) (O S : List ℕ)
+    → x ≡ refused length-not-allowed 0
+    → Tells (told x) (record { answer = 4; place = 0; length = 0; end = 0; steps = 0; count = 0 }) O O S S
+unfolding told number begun
+not-allowed x O S e = rw e (record { lines = refl; output = refl; state = refl })
 
 pub admitted : (bs : List ℕ) → length bs ≤ 2048 → length bs % 2 ≡ 0 → outcome bs ≡ judged (pairs bs)
 unfolding outcome require _>>_ _>>=_

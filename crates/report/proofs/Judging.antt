@@ -1,6 +1,6 @@
--- What the calls of a check and of a run tell. Their slices are as long as the calls ask for, so each answers what the calculus says of
--- the words alone: the type stands at the start of the output slice, and the last state at the start of the state slice, where a walk
--- finds its length.
+-- What the calls of a check and of a run tell. Their slices are as long as the calls ask for, so each answers what the calculus says
+-- of the words alone: the type stands at the start of the output slice, and the last state at the start of the state slice, where
+-- a walk finds its length.
 use Prim.Native.Nat.{ℕ, _≤_, min}
 use mathlib.Core.List.{List, []}
 use mathlib.Core.Path.{_≡_, refl, sym, ap, ap₂, _∙_}
@@ -23,6 +23,8 @@ use Rattle.feguavy.specs.Numbers.{checked-numbers, Numbered-check, ran-numbers,
 use Rattle.feguavy.specs.declared.CheckedNumbers.{CheckedNumbers}
 use Rattle.feguavy.specs.declared.RanNumbers.{RanNumbers}
 use Rattle.report.specs.Report.{limit, budget, allowance, judged, told, Lines}
+use Rattle.report.specs.Shown.{shown, Tells}
+use Rattle.report.specs.declared.Findings.{Findings}
 
 -- A slice that begins with the words of a term: they are as many as the term is long, and a walk goes to their end.
 begun-words : (t : Term) (slice : List ℕ) → take (size t) (begun (words t) slice) ≡ words t
@@ -40,6 +42,13 @@ unfolding cleared begun
 length-cleared n slice =
     let zeros : List ℕ = replicate n 0 in
     omega (arith, length-append zeros (drop (length zeros) slice), length-drop (length zeros) slice)
+
+-- The findings of a refusal, and those of a term with its type and its run.
+abbrev pub refusal : ℕ → ℕ → Findings
+refusal answer place = record { answer = answer; place = place; length = 0; end = 0; steps = 0; count = 0 }
+
+abbrev pub found : CheckedNumbers → RanNumbers → ℕ → Findings
+found n m k = record { answer = 0; place = 0; length = n .length; end = m .end; steps = m .steps; count = k }
 
 -- The verdict on a term, and how it is then judged.
 data Judges (ws : List ℕ) : Answer Term → Answer (Term × Ended) → Type 0 where
@@ -82,52 +91,40 @@ module _ (ws W O : List ℕ) (room : check-room limit ≤ length W) (space : lim
   checks = rw (le-leb (check-room limit) (length W) room, le-leb limit (length O) space) refl
 
   -- Refused, it is told as it is answered.
-  pub refused-told : (n : CheckedNumbers) {W₁ O₁ : List ℕ}
+  pub refused-tells : (n : CheckedNumbers) (S : List ℕ) {W₁ O₁ : List ℕ}
       → Numbered-check (check ws limit W O) n W₁ O₁
       → (n .answer ≡ 0 → ⊥)
-      → record { answer = n .answer; place = n .place; type = []; end = 0; steps = 0; state = [] } ≡ told (judged ws)
-  unfolding checked checked-numbers told
-  refused-told n {W₁} {O₁} h some = on (judges ws) (rw checks at h)
+      → Tells (told (judged ws)) (refusal (n .answer) (n .place)) O O₁ S S
+  unfolding checked checked-numbers told begun
+  refused-tells n S {W₁} {O₁} h some = on (judges ws) (rw checks at h)
     where
       on : {x : Answer Term} {y : Answer (Term × Ended)}
           → Judges ws x y
           → Numbered-check (checked limit W O x) n W₁ O₁
-          → record { answer = n .answer; place = n .place; type = []; end = 0; steps = 0; state = [] } ≡ told y
+          → Tells (told y) (refusal (n .answer) (n .place)) O O₁ S S
       on (typed e) k = absurd (some (ap (λ x. x .answer) (k .numbers)))
       on untyped k =
-          ap (λ (x : CheckedNumbers). record { answer = x .answer; place = x .place; type = []; end = 0; steps = 0; state = [] }) (k .numbers)
+          record {
+            lines = ap (λ (x : CheckedNumbers). shown (refusal (x .answer) (x .place)) [] []) (k .numbers);
+            output = k .output;
+            state = refl;
+          }
 
   -- Accepted, it is told with the run that follows.
-  pub accepted-told : (n : CheckedNumbers) (m : RanNumbers) (k : ℕ) (S : List ℕ) {W₁ O₁ W₂ S₂ : List ℕ}
+  pub accepted-tells : (n : CheckedNumbers) (m : RanNumbers) (k : ℕ) (S : List ℕ) {W₁ O₁ W₂ S₂ : List ℕ}
       → longest ≤ length S
       → Numbered-check (check ws limit W O) n W₁ O₁
       → n .answer ≡ 0
       → Numbered-run (run ws budget allowance W₁ S) m W₂ S₂
       → k ≡ span S₂ 1
-      → record {
-        answer = 0;
-        place = 0;
-        type = take (n .length) O₁;
-        end = m .end;
-        steps = m .steps;
-        state = take k S₂;
-      }
-      ≡ told (judged ws)
+      → Tells (told (judged ws)) (found n m k) O O₁ S S₂
   unfolding checked checked-numbers told course require _>>_ _>>=_ run ran ran-numbers
-  accepted-told n m k S {W₁} {O₁} {W₂} {S₂} free h none g e = on (judges ws) (rw checks at h)
+  accepted-tells n m k S {W₁} {O₁} {W₂} {S₂} free h none g e = on (judges ws) (rw checks at h)
     where
       on : {x : Answer Term} {y : Answer (Term × Ended)}
           → Judges ws x y
           → Numbered-check (checked limit W O x) n W₁ O₁
-          → record {
-            answer = 0;
-            place = 0;
-            type = take (n .length) O₁;
-            end = m .end;
-            steps = m .steps;
-            state = take k S₂;
-          }
-          ≡ told y
+          → Tells (told y) (found n m k) O O₁ S S₂
       on (typed {t} {τ} d) c =
           let x : Ended = run-from (min budget allowance) t in
           let clear : run-room ≤ length W₁ = omega (arith, ap length (c .work), length-cleared (check-room limit) W) in
@@ -137,5 +134,9 @@ module _ (ws W O : List ℕ) (room : check-room limit ≤ length W) (space : lim
           let count : k ≡ size (x .state) = e ∙ ap (λ l. span l 1) (r .state) ∙ begun-span (x .state) S in
           let type : take (n .length) O₁ ≡ words τ = ap₂ take (ap (λ y. y .length) (c .numbers)) (c .output) ∙ begun-words τ O in
           let state : take k S₂ ≡ words (x .state) = ap₂ take count (r .state) ∙ begun-words (x .state) S in
-          same-lines type (ap (λ y. y .end) (r .numbers)) (ap (λ y. y .steps) (r .numbers)) state
+          record {
+            lines = same-lines type (ap (λ y. y .end) (r .numbers)) (ap (λ y. y .steps) (r .numbers)) state;
+            output = c .output;
+            state = r .state;
+          }
       on (untyped {r} {p}) c = absurd (number-not-zero r (sym (ap (λ x. x .answer) (c .numbers)) ∙ none))

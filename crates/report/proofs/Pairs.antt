@@ -1,5 +1,5 @@
--- Words of two bytes each, by their index: word `i` is made of the bytes `2 * i` and `2 * i + 1`, and there are half as many words as
--- bytes. So storing them one after the other stores them all.
+-- Words of two bytes each, by their index: word `i` is made of the bytes `2 * i` and `2 * i + 1`, and there are half as many words
+-- as bytes. So storing them one after the other stores them all.
 use Prim.Native.Nat.{ℕ, zero, suc, _+_, _*_, _/_, _≤_, _<_}
 use mathlib.Core.List.{List, [], _∷_}
 use mathlib.Core.Path.{_≡_, refl, sym, ap, _∙_}

@@ -1,17 +1,16 @@
--- How long a report is: six names and line feeds, four numbers of at most ten digits, and six bytes at most for each word. So its lines
--- are whole in a buffer with that room.
+-- How long a report is: six names and line feeds, four numbers of at most ten digits, and six bytes at most for each word. So its
+-- lines are whole in a buffer with that room.
 use Prim.Native.Nat.{ℕ, _+_, _*_, _≤_}
 use Prim.Native.String.{String}
 use mathlib.Core.List.{List, [], _∷_, _++_}
 use mathlib.Core.Path.{_≡_, sym, ap, _∙_}
 use native.Mathlib.Omega.{arith}
-use lib.ListN.{length, take, length-append, length-take}
-use Rattle.io.specs.Counts.{Counts}
+use lib.ListN.{length, length-append, length-take}
 use Rattle.text.specs.Appending.{Appends}
 use Rattle.text.specs.Texts.{ascii, decimal, list}
 use Rattle.text.proofs.Appended.{whole, length-appended}
 use Rattle.report.specs.Report.{Lines, line, printed}
-use Rattle.report.specs.Shown.{shown}
+use Rattle.report.specs.Shown.{shown, Prints}
 use Rattle.report.specs.declared.Findings.{Findings}
 
 line-length : (name : String) (value : List ℕ) → length (line name value) ≡ length (ascii name) + length value + 1
@@ -71,7 +70,7 @@ pub record Written (found : Findings) (output state out : List ℕ) (r : ℕ) (a
 
 pub written-whole : {found : Findings} {output state out after : List ℕ} {r : ℕ}
     → Written found output state out r after
-    → Counts r after × (take r after ≡ printed (shown found output state))
+    → Prints (printed (shown found output state)) out r after
 written-whole {found} {output} {state} {out} {after} {r} w =
     let fits : length (printed (shown found output state)) ≤ length out = omega (
       arith,
@@ -80,5 +79,5 @@ written-whole {found} {output} {state} {out} {after} {r} w =
       length-take (found .count) state,
       w .room,
     ) in
-    let (end, text) = whole (w .lines) fits in
-    ((omega (arith, length-appended (w .lines)), end ∙ sym (ap length text)), text)
+    let (end, text, rest) = whole (w .lines) fits in
+    record { counts = (omega (arith, length-appended (w .lines)), end ∙ sym (ap length text)); text = text; rest = rest }

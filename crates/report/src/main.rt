@@ -8,13 +8,12 @@ use text::front;
 ghost use Prim.Native.Nat.{_+_, _*_, _≤_};
 ghost use mathlib.Core.List.{[], _∷_, _++_};
 ghost use mathlib.Core.Path.{_≡_};
-ghost use lib.ListN.{length, take};
+ghost use lib.ListN.{length};
 ghost use lib.Seq.{sets};
-ghost use Rattle.io.specs.Counts.{Counts};
 ghost use Rattle.text.specs.Appending.{Appends};
 ghost use Rattle.text.specs.Texts.{decimal, list};
 ghost use Rattle.report.specs.Report.{pairs, judged, outcome, told, printed, report-of};
-ghost use Rattle.report.specs.Shown.{shown};
+ghost use Rattle.report.specs.Shown.{shown, Tells, Prints};
 
 // What is printed, but for the lists, of which it has the lengths.
 struct Findings {
@@ -64,7 +63,8 @@ fn read_words(bytes: &[u8], words: &mut [u16])
 fn judge(term: &[u16], output: &mut [u16], state: &mut [u16]) -> Findings
     requires { ⌜ 32 ≤ length (now output) ⌝ }
     requires { ⌜ 1024 ≤ length (now state) ⌝ }
-    ensures { λ r. ⌜ shown r (now (output .exit)) (now (state .exit)) ≡ told (judged (now (term .entry))) ⌝ }
+    ensures { λ r. ⌜ Tells (told (judged (now (term .entry)))) r
+        (now (output .entry)) (now (output .exit)) (now (state .entry)) (now (state .exit)) ⌝ }
 {
     let mut work = [0u16; 16384];
     let checked = feguavy_check(term, 32, &mut work, output);
@@ -88,7 +88,8 @@ fn judge(term: &[u16], output: &mut [u16], state: &mut [u16]) -> Findings
 fn answer(bytes: &[u8], output: &mut [u16], state: &mut [u16]) -> Findings
     requires { ⌜ 32 ≤ length (now output) ⌝ }
     requires { ⌜ 1024 ≤ length (now state) ⌝ }
-    ensures { λ r. ⌜ shown r (now (output .exit)) (now (state .exit)) ≡ told (outcome (now (bytes .entry))) ⌝ }
+    ensures { λ r. ⌜ Tells (told (outcome (now (bytes .entry)))) r
+        (now (output .entry)) (now (output .exit)) (now (state .entry)) (now (state .exit)) ⌝ }
 {
     if 2048 < bytes.len() {
         return refused(4, 0);
@@ -124,7 +125,8 @@ fn list_line(name: &[u8], words: &[u16], out: &mut [u8], at: usize) -> usize
 // The six lines. A word takes at most six bytes, and all else at most 80.
 fn lines(found: Findings, output: &[u16], state: &[u16], out: &mut [u8]) -> usize
     requires { ⌜ 80 + 6 * (length (now output) + length (now state)) ≤ length (now out) ⌝ }
-    ensures { λ r. ⌜ Counts r (now (out .exit)) × (take r (now (out .exit)) ≡ printed (shown found (now (output .entry)) (now (state .entry)))) ⌝ }
+    ensures { λ r. ⌜ Prints (printed (shown found (now (output .entry)) (now (state .entry))))
+        (now (out .entry)) r (now (out .exit)) ⌝ }
 {
     let answered = line(b"answer=", found.answer, out, 0);
     let placed = line(b"place=", found.place, out, answered);
@@ -137,8 +139,7 @@ fn lines(found: Findings, output: &[u16], state: &[u16], out: &mut [u8]) -> usiz
 // The report on the bytes that were read, at the start of `out`, and its length.
 fn report(bytes: &[u8], out: &mut [u8]) -> usize
     requires { ⌜ 8192 ≤ length (now out) ⌝ }
-    ensures { λ r. ⌜ Counts r (now (out .exit)) ⌝ }
-    ensures { λ r. ⌜ take r (now (out .exit)) ≡ report-of (now (bytes .entry)) ⌝ }
+    ensures { λ r. ⌜ Prints (report-of (now (bytes .entry))) (now (out .entry)) r (now (out .exit)) ⌝ }
 {
     let mut output = [0u16; 32];
     let mut state = [0u16; 1024];

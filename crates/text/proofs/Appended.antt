@@ -7,7 +7,7 @@ use mathlib.Core.Path.{_≡_, refl, sym, ap, _∙_}
 use native.Mathlib.Nat.{eq-or-lt-of-le}
 use native.Mathlib.Omega.{arith}
 use lib.ListN.{length, take, drop, length-append}
-use lib.Seq.{sets, sets-eq, length-sets, set-out, take-at}
+use lib.Seq.{sets, sets-eq, length-sets, set-out, take-at, drop-at}
 use Rattle.calculus.proofs.Stores.{sets-append}
 use Rattle.text.specs.Appending.{Appends, appends, behind}
 
@@ -44,9 +44,14 @@ both {bs} {cs} {out} {mid} {after} {at} (appends p s) (appends q t) =
     (omega (arith, length-append bs cs, ap length s, length-sets out at bs))
     (t ∙ rw (s, p) (onwards bs cs out at ∙ sym (sets-append out at bs cs)))
 
--- A text that fits is there whole.
-pub whole : {bs out after : List ℕ} {r : ℕ} → Appends bs out 0 r after → length bs ≤ length out → (r ≡ length bs) × (take r after ≡ bs)
+-- A text that fits is there whole, and what stands behind it is as it was.
+pub whole : {bs out after : List ℕ} {r : ℕ}
+    → Appends bs out 0 r after
+    → length bs ≤ length out
+    → (r ≡ length bs) × (take r after ≡ bs) × (drop r after ≡ drop r out)
 unfolding behind
 whole {bs} {out} {after} {r} (appends p s) h =
     let end : r ≡ length bs = omega arith in
-    (end, ap (take r) (s ∙ sets-eq bs out 0 (omega arith)) ∙ take-at bs (drop (0 + length bs) out) r (sym end))
+    let next : 0 + length bs ≡ r = omega arith in
+    let now : after ≡ bs ++ drop r out = s ∙ sets-eq bs out 0 (omega arith) ∙ ap (λ n. bs ++ drop n out) next in
+    (end, ap (take r) now ∙ take-at bs (drop r out) r (sym end), ap (drop r) now ∙ drop-at bs (drop r out) r (sym end))

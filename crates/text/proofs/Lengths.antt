@@ -1,5 +1,5 @@
--- How long texts are. A number below 10 ^ k has at most k digits, since its tenth part is below 10 ^ (k - 1); so a 16-bit word takes at
--- most five digits and the space in front of it.
+-- How long texts are. A number below 10 ^ k has at most k digits, since its tenth part is below 10 ^ (k - 1); so a 16-bit word takes
+-- at most five digits and the space in front of it.
 use Prim.Native.Nat.{ℕ, zero, suc, _+_, _*_, _/_, _%_, _^_, _≤_, _<_}
 use mathlib.Core.Bool.{Bool, true, false, cond}
 use mathlib.Core.List.{List, [], _∷_, _++_}
@@ -37,10 +37,12 @@ spaced-length : (ws : List ℕ) → Narrow ws → length (spaced ws) ≤ 6 * len
 unfolding spaced
 spaced-length [] h = omega arith
 spaced-length (w ∷ ws) h =
-    omega (arith, length-append (32 ∷ decimal w) (spaced ws), decimal-length 4 w (omega (arith, h 0)), spaced-length ws (λ i. h (suc i)))
+    let digits = decimal-length 4 w (omega (arith, h 0)) in
+    omega (arith, length-append (32 ∷ decimal w) (spaced ws), digits, spaced-length ws (λ i. h (suc i)))
 
 pub list-length : (ws : List ℕ) → Narrow ws → length (list ws) ≤ 6 * length ws
 unfolding list
 list-length [] h = omega arith
 list-length (w ∷ ws) h =
-    omega (arith, length-append (decimal w) (spaced ws), decimal-length 4 w (omega (arith, h 0)), spaced-length ws (λ i. h (suc i)))
+    let digits = decimal-length 4 w (omega (arith, h 0)) in
+    omega (arith, length-append (decimal w) (spaced ws), digits, spaced-length ws (λ i. h (suc i)))

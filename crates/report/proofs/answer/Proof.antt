@@ -6,26 +6,28 @@ use borrow.Author.Needs.{needs}
 use denote.Ref.{now}
 use native.Mathlib.Omega.{arith}
 use lib.ListN.{length, take, replicate, length-replicate}
-use Rattle.calculus.specs.Answer.{number}
-use Rattle.report.specs.Report.{pairs, judged, told}
-use Rattle.report.proofs.Admitting.{over, odd, admitted}
+use Rattle.report.specs.Report.{pairs, outcome}
+use Rattle.report.proofs.Admitting.{over, odd, not-allowed, admitted}
 use Rattle.report.proofs.Pairs.{length-pairs, stored}
 use Rattle.report.proofs.answer.Statement.{statement}
 use Rattle.report.proofs.answer.Tie as tie
 
 returns : tie.Need-returns
-unfolding told number
 returns c =
     let test = c .before in
-    let bytes = now (test .before .before .before .before .args .bytes) in
-    rw (c .refused .ensures) (ap told (sym (over bytes (test .if1 .taken))))
+    let start = test .before .before .before .before in
+    let bytes = now (start .args .bytes) in
+    rw (c .refused .ensures)
+    (not-allowed (outcome bytes) (now (start .args .output)) (now (start .args .state)) (over bytes (test .if1 .taken)))
 
 returns-2 : tie.Need-returns-2
-unfolding told number
 returns-2 c =
     let test = c .before in
-    let bytes = now (test .before .before .before .before .before .args .bytes) in
-    rw (c .refused2 .ensures) (ap told (sym (odd bytes (test .before .if1 .left) (test .if2 .taken))))
+    let start = test .before .before .before .before .before in
+    let bytes = now (start .args .bytes) in
+    rw (c .refused2 .ensures)
+    (not-allowed (outcome bytes) (now (start .args .output)) (now (start .args .state))
+    (odd bytes (test .before .if1 .left) (test .if2 .taken)))
 
 returns-3 : tie.Need-returns-3
 returns-3 c =
@@ -36,10 +38,11 @@ returns-3 c =
     let start = test .before .before .before .before .before in
     let bytes = now (start .args .bytes) in
     let zeros : List ℕ = replicate 1024 0 in
-    let fits : length (pairs bytes) ≤ length zeros = omega (arith, length-replicate {A = ℕ} 1024 0, length-pairs bytes, test .before .if1 .left) in
+    let short = test .before .if1 .left in
+    let fits : length (pairs bytes) ≤ length zeros = omega (arith, length-replicate {A = ℕ} 1024 0, length-pairs bytes, short) in
     let words = front .front .ensures ∙ ap (take (length bytes / 2)) (read .read-words .ensures)
     ∙ stored (pairs bytes) zeros (length bytes / 2) (sym (length-pairs bytes)) fits in
-    judge .judge .ensures ∙ ap told (ap judged words ∙ sym (admitted bytes (test .before .if1 .left) (test .if2 .left)))
+    rw (words, ← admitted bytes short (test .if2 .left)) at (judge .judge .ensures)
 
 pub answer-spec : {M : Type 1} → statement M
 answer-spec =

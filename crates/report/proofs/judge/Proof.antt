@@ -6,7 +6,7 @@ use native.Mathlib.Omega.{arith}
 use lib.ListN.{length, replicate, length-replicate}
 use Rattle.calculus.specs.Outcomes.{check-room}
 use Rattle.report.specs.Report.{limit}
-use Rattle.report.proofs.Judging.{refused-told, accepted-told}
+use Rattle.report.proofs.Judging.{refused-tells, accepted-tells}
 use Rattle.report.proofs.judge.Statement.{statement}
 use Rattle.report.proofs.judge.Tie as tie
 
@@ -20,8 +20,8 @@ returns c =
     let term = now (start .args .term) in
     let output = now (start .args .output) in
     rw (c .refused .ensures)
-    (refused-told term (replicate 16384 0) output room (start .pre .0) (check .feguavy-check .result)
-    (check .feguavy-check .ensures) (c .before .if1 .taken))
+    (refused-tells term (replicate 16384 0) output room (start .pre .0) (check .feguavy-check .result)
+    (now (start .args .state)) (check .feguavy-check .ensures) (c .before .if1 .taken))
 
 returns-2 : tie.Need-returns-2
 returns-2 c =
@@ -32,7 +32,8 @@ returns-2 c =
     let term = now (start .args .term) in
     let output = now (start .args .output) in
     let state = now (start .args .state) in
-    accepted-told term (replicate 16384 0) output room (start .pre .0) (check .feguavy-check .result) (run .feguavy-run .result) (c .span .result) state
+    accepted-tells term (replicate 16384 0) output room (start .pre .0) (check .feguavy-check .result) (run .feguavy-run .result)
+    (c .span .result) state
     (start .pre .1) (check .feguavy-check .ensures) (else .if1 .left) (run .feguavy-run .ensures .0) (c .span .ensures .0)
 
 pub judge-spec : {M : Type 1} → statement M

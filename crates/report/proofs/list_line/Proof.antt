@@ -1,4 +1,4 @@
--- `list_line` meets its contract: the name, the words and a line feed, one behind the other; an element of the slice is a 16-bit word.
+-- `list_line` meets its contract: the name, the words and a line feed, one behind the other; each element of the slice has 16 bits.
 use borrow.Author.Needs.{needs}
 use native.Mathlib.Omega.{arith}
 use Rattle.text.proofs.Appended.{both}

@@ -29,7 +29,8 @@ loop-again c =
     let (half, upto, same, stored) = loop .loop .inv in
     let inside : i < length (pairs bytes) = omega (arith, length-pairs bytes) in
     let value = c .word .ensures ∙ sym (pairs-at bytes i (omega arith)) in
-    (half, omega arith, length-set (loop .loop .words) i (c .word .result) ∙ same, ap₂ (λ l w. set l i w) stored value ∙ store-next (pairs bytes) words i inside)
+    let next = ap₂ (λ l w. set l i w) stored value ∙ store-next (pairs bytes) words i inside in
+    (half, omega arith, length-set (loop .loop .words) i (c .word .result) ∙ same, next)
 
 same-length : tie.Need-same-length Inv-loop μ-loop
 same-length c = c .before .loop .inv .2

@@ -1,7 +1,6 @@
 -- `report` meets its contract: the lines of what was found are the report, and the buffer is long enough for 32 and 1,024 words.
-use mathlib.Core.Path.{ap, _∙_}
 use borrow.Author.Needs.{needs}
-use Rattle.report.specs.Report.{printed, report-of}
+use Rattle.report.specs.Report.{report-of}
 use Rattle.report.proofs.report.Statement.{statement}
 use Rattle.report.proofs.report.Tie as tie
 
@@ -10,7 +9,7 @@ unfolding report-of
 returns c =
     let lines = c .before .before in
     let answer = lines .before .before .before .before .before .before in
-    (lines .lines .ensures .0, lines .lines .ensures .1 ∙ ap printed (answer .answer .ensures))
+    rw (answer .answer .ensures .lines) at (lines .lines .ensures)
 
 pub report-spec : {M : Type 1} → statement M
 report-spec =
