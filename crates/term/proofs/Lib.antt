@@ -7,3 +7,4 @@ pub mod Stacked
 pub mod Turns
 pub mod Whole
 pub mod Finding
+pub mod Maps

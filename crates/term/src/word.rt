@@ -39,7 +39,7 @@ pub fn classify(word: u16) -> Meaning
 pub const PARTS: [u8; 8] = [0, 1, 2, 2, 2, 2, 2, 0];
 
 // How many parts follow a word. The caller lends the table, since a constant is laid down anew at each use.
-pub fn parts(table: &[u8; 8], word: u16) -> usize
+pub(crate) fn parts(table: &[u8; 8], word: u16) -> usize
     requires { ⌜ now table ≡ parts-table ⌝ }
     ensures { λ r. ⌜ r ≡ arity word ⌝ }
 {
