@@ -9,7 +9,7 @@ use Rattle.calculus.specs.Answer.{Reason, limit-not-allowed, work-short,
 use Rattle.calculus.specs.Run.{End, at-value, spent, at-stuck, too-long, end-number, EndNumbersApart}
 
 -- A function that another undoes is injective.
-undone : {A B : Type 0} (f : A → B) (g : B → A) → ((a : A) → g (f a) ≡ a) → (a b : A) → f a ≡ f b → a ≡ b
+pub undone : {A B : Type 0} (f : A → B) (g : B → A) → ((a : A) → g (f a) ≡ a) → (a b : A) → f a ≡ f b → a ≡ b
 undone f g h a b e = sym (h a) ∙ ap g e ∙ h b
 
 -- The reasons from number 0 on; no reason has the number 0.

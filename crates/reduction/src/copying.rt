@@ -11,7 +11,7 @@ pub enum Room {
 }
 
 // Writes one word.
-pub fn put(word: u16, out: &mut [u16], at: usize) -> Room
+pub(crate) fn put(word: u16, out: &mut [u16], at: usize) -> Room
     requires { ⌜ at ≤ length (now out) ⌝ }
     ensures { λ r. ⌜ Writes (word ∷ []) (now (out .entry)) at r (now (out .exit)) ⌝ }
 {

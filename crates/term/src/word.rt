@@ -4,7 +4,7 @@ ghost use Rattle.calculus.specs.Meaning.{binds, meaning};
 ghost use Rattle.term.specs.Word.{arity, meaning-of, parts-table, second, shape-of};
 
 // Not in the order of the words throughout: as long as a meaning is the word itself, the compiler decides by a table of jumps,
-// and a jump to an unknown place costs more than a few comparisons (docs/PERFORMANCE.md).
+// and a jump to an unknown place costs more than a few comparisons (docs/SHAPES.md).
 pub enum Meaning {
     Star,
     CastDown,
@@ -39,7 +39,7 @@ pub fn classify(word: u16) -> Meaning
 pub const PARTS: [u8; 8] = [0, 1, 2, 2, 2, 2, 2, 0];
 
 // How many parts follow a word. The caller lends the table, since a constant is laid down anew at each use.
-pub fn parts(table: &[u8; 8], word: u16) -> usize
+pub(crate) fn parts(table: &[u8; 8], word: u16) -> usize
     requires { ⌜ now table ≡ parts-table ⌝ }
     ensures { λ r. ⌜ r ≡ arity word ⌝ }
 {

@@ -11,7 +11,7 @@ use Rattle.term.proofs.word.bound.Tie as tie
 returns : tie.Need-returns
 returns c =
     let m = c .before .classify in
-    second-by-tag (m .result) 1 (4 ∷ 6 ∷ 5 ∷ []) (refl, (refl, (refl, tt))) (c .match .keys1)
+    second-by-tag (m .result) _ (4 ∷ 6 ∷ 5 ∷ []) (refl, (refl, (refl, tt))) (c .match .keys1)
     ∙ ap (λ x. second (binds x)) (m .ensures)
 
 returns-2 : tie.Need-returns-2
@@ -19,7 +19,7 @@ returns-2 c =
     let m = c .before .classify in
     second-by-tag
     (m .result)
-    0
+    _
     (0 ∷ 1 ∷ 2 ∷ 3 ∷ 7 ∷ 8 ∷ [])
     (refl, (refl, (refl, (refl, (refl, (refl, tt))))))
     (c .match .keys2)
