@@ -22,8 +22,10 @@
 #![warn(missing_debug_implementations)]
 
 mod answers;
+mod ask;
 mod bytes;
 mod calls;
+mod explain;
 mod layout;
 mod raw;
 #[doc(hidden)]
@@ -33,7 +35,9 @@ mod tree;
 mod word;
 
 pub use answers::{Checked, End, Ended, Ran, Reason, Refusal, UnknownNumber};
+pub use ask::least_limit;
 pub use bytes::{bytes_from_words, words_from_bytes};
 pub use calls::length;
 pub use calls::{check, check_work, part, run, Buffers, LARGEST_LIMIT, LONGEST, RUN_WORK};
+pub use explain::{explain, Explanation, Fact, Variable};
 pub use show::{show, Style};

@@ -55,7 +55,8 @@ impl Style {
     /// A list of words that is one term, as text: see [`show`].
     pub fn show(&self, words: &[u16]) -> Result<String, Refusal> {
         let tree = Tree::of(words)?;
-        Ok(Picture { style: *self, tree: &tree, names: Names::of(&tree, Scope::default()), focus: None, brief: false }.text())
+        let names = Names::of(&tree, Scope::default());
+        Ok(Picture { style: *self, tree: &tree, names: &names, mark: None, near: None }.text())
     }
 
     pub(crate) fn sign(&self, sign: Sign) -> &'static str {
@@ -142,6 +143,11 @@ impl Names {
         Names { of, taken, outside }
     }
 
+    /// The name of the variable of the binder at a place.
+    pub fn name(&self, binder: usize) -> Option<usize> {
+        self.of[binder]
+    }
+
     /// The scope in which a node stands.
     pub fn scope(&self, tree: &Tree, place: usize) -> Scope {
         let around = tree.binders(place).map(|binder| self.of[binder]);
@@ -156,13 +162,14 @@ impl Names {
     }
 }
 
-/// A term to be drawn: in which style, with which names, which node is marked, and whether what is far from it is left out.
+/// A term to be drawn: in which style, with which names, which node is marked, and what is to be drawn near, the rest left out.
+#[derive(Clone, Copy)]
 pub(crate) struct Picture<'a> {
     pub style: Style,
     pub tree: &'a Tree<'a>,
-    pub names: Names,
-    pub focus: Option<usize>,
-    pub brief: bool,
+    pub names: &'a Names,
+    pub mark: Option<usize>,
+    pub near: Option<usize>,
 }
 
 /// Where a node stands in its parent, which decides on parentheses and on groups of its own.
@@ -248,7 +255,7 @@ impl Picture<'_> {
             items.insert(0, text("("));
             items.push(text(")"));
         }
-        if self.focus == Some(place) {
+        if self.mark == Some(place) {
             items.insert(0, sign(Sign::MarkOpens));
             items.push(sign(Sign::MarkCloses));
         }
@@ -317,14 +324,14 @@ impl Picture<'_> {
         binds(self.tree.word(place)) && !self.is_left_out(place)
     }
 
-    /// In a brief picture, what is long and neither near the marked node nor around it.
+    /// What is long and neither begins near the node to be drawn nor holds it.
     fn is_left_out(&self, place: usize) -> bool {
         const FEW: usize = 12;
         const NEAR: usize = 60;
-        let Some(focus) = self.focus.filter(|_| self.brief) else { return false };
-        if self.tree.slice(place).len() <= FEW || self.tree.is_in(focus, place) {
+        let Some(near) = self.near else { return false };
+        if self.tree.slice(place).len() <= FEW || self.tree.is_in(near, place) {
             return false;
         }
-        !self.tree.is_in(place, focus) || place > focus + NEAR
+        !self.tree.is_in(place, near) || place > near + NEAR
     }
 }

@@ -1,0 +1,523 @@
+//! Refusals explained: what was expected at the place refused, and what the proved check finds there.
+
+use crate::ask::{least_limit, Asker, Measured};
+use crate::show::{spell, Names, Picture, Scope, Sign, Style};
+use crate::tree::{Bound, Tree};
+use crate::word::{self, DOWN, PRODUCT, STAR, UP, VARIABLE};
+use crate::{check, check_work, Checked, Reason, Refusal, LARGEST_LIMIT};
+use std::collections::BTreeSet;
+use std::fmt;
+
+/// Explains why a check of a term at a limit is refused, in the style of [`Style::default`]: see [`Style::explain`].
+///
+/// ```
+/// use feguavy::{explain, Buffers};
+/// // (λ x : ⋆. x) (λ x : ⋆. x)
+/// let term = [2, 4, 0, 16, 4, 0, 16];
+/// let refusal = Buffers::for_limit(64).type_of(&term).unwrap_err();
+/// let explanation = explain(&term, refusal, 64);
+/// assert_eq!(explanation.fact("expected").unwrap().text, "⋆");
+/// assert_eq!(explanation.fact("found").unwrap().text, "⋆ → ⋆");
+/// assert_eq!(
+///     explanation.to_string(),
+///     "an argument of another type than the domain, at place 0 (refusal 12)
+///
+///     ⟦(λ x : ⋆. x) (λ x : ⋆. x)⟧
+///
+/// The argument's type must be the function's domain, word for word.
+///
+///     function       λ x : ⋆. x
+///     function type  ⋆ → ⋆
+///     argument       λ x : ⋆. x
+///     expected       ⋆
+///     found          ⋆ → ⋆"
+/// );
+/// ```
+pub fn explain(term: &[u16], refusal: Refusal, limit: u32) -> Explanation {
+    Style::default().explain(term, refusal, limit)
+}
+
+/// A term or a type that an explanation names.
+#[derive(Clone, Debug, PartialEq, Eq, Hash)]
+pub struct Fact {
+    /// What it is: `part`, `function`, `argument`, `body`, `annotation` are parts of the term; `function_type`, `body_type`,
+    /// `expected`, `found` and `too_long` are types.
+    pub name: &'static str,
+    /// Its words, in the context of the part that it is about: free variables are those of the binders around that part.
+    pub words: Vec<u16>,
+    /// The same as text. Where something was expected and something else found, the first difference is marked. What is long is cut
+    /// short.
+    pub text: String,
+}
+
+/// A variable that a fact mentions.
+#[derive(Clone, Debug, PartialEq, Eq, Hash)]
+pub struct Variable {
+    /// Its name.
+    pub name: String,
+    /// Its annotation, in the context of its binder.
+    pub words: Vec<u16>,
+    /// The same as text.
+    pub text: String,
+}
+
+/// What there is to say about a refusal.
+#[derive(Clone, Debug, PartialEq, Eq, Hash)]
+pub struct Explanation {
+    /// The refusal.
+    pub refusal: Refusal,
+    /// The term with the part at the refusal's place marked, by `⟦` and `⟧` or, in ASCII, `{` and `}`; where the list is no term, the
+    /// words around the place. What is long is cut short.
+    pub shown: Option<String>,
+    /// What is wrong there.
+    pub message: String,
+    /// The terms and types on which it turns.
+    pub facts: Vec<Fact>,
+    /// The variables of the facts, the outermost first.
+    pub variables: Vec<Variable>,
+    /// What would do instead, where one cast more is enough.
+    pub hint: Option<String>,
+    /// Of refusal 16: the least limit at which the answer is another; see [`least_limit`].
+    pub least_limit: Option<u32>,
+    /// Whether all of it could be told: a part's type cannot be asked where it would be too long beside the part's context.
+    pub complete: bool,
+}
+
+impl Explanation {
+    /// The fact of a name.
+    pub fn fact(&self, name: &str) -> Option<&Fact> {
+        self.facts.iter().find(|fact| fact.name == name)
+    }
+}
+
+/// Where the text of a fact begins.
+const MARGIN: usize = 4;
+const LABEL: usize = 15;
+
+impl fmt::Display for Explanation {
+    fn fmt(&self, f: &mut fmt::Formatter) -> fmt::Result {
+        let indented = |text: &str, by: usize| text.replace('\n', &format!("\n{:by$}", ""));
+        write!(f, "{}", self.refusal)?;
+        if let Some(shown) = &self.shown {
+            write!(f, "\n\n{:MARGIN$}{}", "", indented(shown, MARGIN))?;
+        }
+        write!(f, "\n\n{}", self.message)?;
+        for (i, fact) in self.facts.iter().enumerate() {
+            let label = fact.name.replace('_', " ");
+            let space = if i == 0 { "\n\n" } else { "\n" };
+            write!(f, "{space}{:MARGIN$}{label:LABEL$}{}", "", indented(&fact.text, MARGIN + LABEL))?;
+        }
+        for (i, variable) in self.variables.iter().enumerate() {
+            let label = if i == 0 { "where" } else { "" };
+            let text = format!("{} : {}", variable.name, variable.text);
+            write!(f, "\n{:MARGIN$}{label:LABEL$}{}", "", indented(&text, MARGIN + LABEL))?;
+        }
+        if let Some(hint) = &self.hint {
+            write!(f, "\n\n{hint}")?;
+        }
+        Ok(())
+    }
+}
+
+impl Style {
+    /// Explains why a check of a term at a limit is refused. Of refusals 10 to 16 every type is one that the proved check answers to
+    /// a question: the type of an open part is asked for under abstractions over its context, and what a type steps to by a cast.
+    /// A refusal that is not the answer to that term at that limit is not explained, but said to be none; refusals 2 and 3 depend on
+    /// the slices, and are taken as they are.
+    pub fn explain(&self, term: &[u16], refusal: Refusal, limit: u32) -> Explanation {
+        let mut explanation = Explanation {
+            refusal,
+            shown: None,
+            message: String::new(),
+            facts: Vec::new(),
+            variables: Vec::new(),
+            hint: None,
+            least_limit: None,
+            complete: true,
+        };
+        if let Some(message) = another_answer(term, refusal, limit) {
+            return Explanation { message, complete: false, ..explanation };
+        }
+        match Tree::of(term) {
+            Ok(tree) if refusal.reason.number() >= 8 => {
+                let names = Names::of(&tree, Scope::default());
+                let near = (term.len() > LONG).then_some(refusal.place);
+                let style = Style { width: self.width.saturating_sub(MARGIN), ..*self };
+                let picture = Picture { style, tree: &tree, names: &names, mark: Some(refusal.place), near };
+                explanation.shown = Some(picture.text());
+                if refusal.reason.number() >= 10 {
+                    let asked = Asked::about(picture, refusal.place, explanation);
+                    return asked.explained(refusal.reason, limit);
+                }
+            }
+            _ if refusal.reason.has_place() => explanation.shown = Some(self.words_around(term, refusal.place)),
+            _ => {}
+        }
+        explanation.message = self.unread(term, refusal, limit);
+        explanation
+    }
+
+    /// What is wrong with a call, or with a list that is read as no closed term.
+    fn unread(&self, term: &[u16], refusal: Refusal, limit: u32) -> String {
+        let place = refusal.place;
+        let path = path(term, place);
+        let awaited = match path.last() {
+            Some(&(node, number)) => format!("the {} is awaited", part_of(term, node, number)),
+            None => "the term is awaited".to_string(),
+        };
+        match refusal.reason {
+            Reason::LimitNotAllowed => format!("The limit is {limit}, and must be from 1 to 1,024."),
+            Reason::WorkShort => {
+                "A check needs a working slice of 512 words for each word of the limit, a run one of 4,096 words.".to_string()
+            }
+            Reason::OutputShort => {
+                "A check needs an output slice of as many words as the limit, a run a state slice of 1,024 words.".to_string()
+            }
+            Reason::LengthNotAllowed => format!("The list has {} words, and a term has 1 to 1,024.", term.len()),
+            Reason::NoMeaning => {
+                let word = term[place];
+                format!("The word {word} means nothing where {awaited}: nodes are 0 to 6, and variables 16 to 2,047.")
+            }
+            Reason::ListEnds => format!("The list ends after {} words where {awaited}.", term.len()),
+            Reason::WordsAfter => {
+                let over = term.len() - place;
+                let words = if over == 1 { "one more word follows".to_string() } else { format!("{over} more words follow") };
+                format!("The term ends before place {place}, and {words}.")
+            }
+            Reason::Level65 => {
+                format!("The {} stands at level {}, and the lowest level of a term is 64.", word::name(term[place]), path.len() + 1)
+            }
+            _ => {
+                let index = term[place] - VARIABLE;
+                match path.iter().filter(|&&(node, number)| word::binds(term[node]) && number == 2).count() {
+                    0 => format!("The variable has index {index}, and stands under no binder."),
+                    1 => format!("The variable has index {index}, and stands under one binder, whose variable has index 0."),
+                    count => {
+                        let last = count - 1;
+                        format!("The variable has index {index}, and stands under {count} binders, whose variables have the indices 0 to {last}.")
+                    }
+                }
+            }
+        }
+    }
+
+    /// The words of a list around a place, which is marked.
+    fn words_around(&self, words: &[u16], place: usize) -> String {
+        const AROUND: usize = 12;
+        let (start, end) = (place.saturating_sub(AROUND), words.len().min(place + AROUND + 1));
+        let mut texts: Vec<String> = words[start..end].iter().map(|word| word.to_string()).collect();
+        let marked = texts.get(place - start).cloned().unwrap_or_default();
+        let marked = format!("{}{marked}{}", self.sign(Sign::MarkOpens), self.sign(Sign::MarkCloses));
+        match texts.get_mut(place - start) {
+            Some(text) => *text = marked,
+            None => texts.push(marked),
+        }
+        if start > 0 {
+            texts.insert(0, self.sign(Sign::LeftOut).to_string());
+        }
+        if end < words.len() {
+            texts.push(self.sign(Sign::LeftOut).to_string());
+        }
+        texts.join(" ")
+    }
+}
+
+/// A term of more words is cut short around what is to be seen.
+const LONG: usize = 120;
+
+/// What a check answers, if it is not that refusal.
+fn another_answer(term: &[u16], refusal: Refusal, limit: u32) -> Option<String> {
+    let at = match refusal.reason.number() {
+        2 | 3 => return None,
+        // a run, too, refuses by these, and has no limit
+        4..=9 => LARGEST_LIMIT,
+        _ => limit,
+    };
+    let answer = answer(term, at);
+    (answer != Checked::Refused(refusal))
+        .then(|| format!("A check of this term at limit {at} does not answer so. It answers: {answer}."))
+}
+
+fn answer(term: &[u16], limit: u32) -> Checked {
+    let allowed = limit.min(LARGEST_LIMIT);
+    check(term, limit, &mut vec![0; check_work(allowed)], &mut vec![0; allowed as usize])
+}
+
+/// The nodes in which a place of a list stands, the outermost first, and in which part of each.
+fn path(words: &[u16], place: usize) -> Vec<(usize, usize)> {
+    let mut open: Vec<(usize, usize)> = Vec::new();
+    for (at, &word) in words.iter().enumerate().take(place) {
+        if word::parts(word) > 0 {
+            open.push((at, 1));
+            continue;
+        }
+        while let Some((node, number)) = open.pop() {
+            if number < word::parts(words[node]) {
+                open.push((node, number + 1));
+                break;
+            }
+        }
+    }
+    open
+}
+
+/// `annotation of the abstraction at place 0`
+fn part_of(words: &[u16], node: usize, number: usize) -> String {
+    format!("{} of the {} at place {node}", word::part_name(words[node], number), word::name(words[node]))
+}
+
+/// An explanation in the making, of a refusal by the rules of typing.
+struct Asked<'a> {
+    picture: Picture<'a>,
+    place: usize,
+    asker: Asker,
+    explanation: Explanation,
+    /// The binders of the variables that the facts mention.
+    mentioned: BTreeSet<usize>,
+}
+
+impl<'a> Asked<'a> {
+    fn about(picture: Picture<'a>, place: usize, explanation: Explanation) -> Asked<'a> {
+        let style = Style { width: picture.style.width.saturating_sub(LABEL), ..picture.style };
+        let picture = Picture { style, ..picture };
+        Asked { picture, place, asker: Asker::new(), explanation, mentioned: BTreeSet::new() }
+    }
+
+    fn explained(mut self, reason: Reason, limit: u32) -> Explanation {
+        let (tree, place) = (self.picture.tree, self.place);
+        let star = self.picture.style.sign(Sign::Star);
+        match reason {
+            Reason::NotStar => {
+                let path = path(tree.words, place);
+                let part = path.last().map_or("part".to_string(), |&(node, number)| part_of(tree.words, node, number));
+                self.say(format!("The {part} must be a type: its own type must be {star}."));
+                self.part("part", place);
+                let found = self.type_of("part", place);
+                self.compare(place, Some(vec![STAR]), found, "part", place);
+            }
+            Reason::NotProduct => {
+                let function = tree.first(place);
+                self.say("The function's type must be a product.");
+                self.part("function", function);
+                if let Some(found) = self.type_of("function", function) {
+                    self.state("found", function, found, None);
+                }
+                let cast = self.ask(function, &[&[DOWN][..], tree.slice(function)].concat());
+                if let Some(product) = cast.ok().filter(|found| found[0] == PRODUCT) {
+                    let text = self.text(function, &product, None);
+                    self.hint(format!("A down cast of the function would have a product for its type: {text}"));
+                }
+            }
+            Reason::WrongArgument => {
+                let (function, argument) = (tree.first(place), tree.second(place));
+                self.say("The argument's type must be the function's domain, word for word.");
+                self.part("function", function);
+                let product = self.type_of("function", function);
+                if let Some(product) = product.clone() {
+                    self.state("function_type", function, product, None);
+                }
+                self.part("argument", argument);
+                let found = self.type_of("argument", argument);
+                let domain = product.map(|product| product[1..1 + crate::length(&product[1..])].to_vec());
+                self.compare(place, domain, found, "argument", argument);
+            }
+            Reason::NoStep if tree.word(place) == UP => {
+                let (annotation, body) = (tree.first(place), tree.second(place));
+                let why = why_no_step(tree.slice(annotation));
+                self.say(format!("The annotation must take a step, and does not: it is {why}."));
+                self.part("annotation", annotation);
+                self.part("body", body);
+                if let Some(found) = self.type_of("body", body) {
+                    self.state("body_type", body, found, None);
+                }
+            }
+            Reason::NoStep => {
+                let body = tree.first(place);
+                self.part("body", body);
+                match self.type_of("body", body) {
+                    Some(found) => {
+                        self.say(format!("The body's type must take a step, and does not: it is {}.", why_no_step(&found)));
+                        self.state("found", body, found, None);
+                    }
+                    None => self.say("The body's type must take a step, and does not."),
+                }
+            }
+            Reason::WrongCast => {
+                let (annotation, body) = (tree.first(place), tree.second(place));
+                self.say("The body's type must be what the annotation steps to, word for word.");
+                self.part("annotation", annotation);
+                let stepped = self.asker.step_in(&context(tree, place), tree.slice(annotation));
+                let stepped = self.answered("what the annotation steps to", stepped);
+                self.part("body", body);
+                let found = self.type_of("body", body);
+                self.compare(place, stepped, found, "body", body);
+            }
+            Reason::WrongRecursion => {
+                let body = tree.second(place);
+                self.say("The body's type must be the annotation, word for word.");
+                self.part("body", body);
+                // the annotation as it is seen in the body: the type of the recursion's own variable
+                let annotation = self.ask(body, &[VARIABLE]);
+                let annotation = self.answered("the annotation, seen from the body,", annotation);
+                let found = self.type_of("body", body);
+                self.compare(body, annotation, found, "body", body);
+            }
+            _ => self.over_limit(limit),
+        }
+        self.name_variables();
+        self.explanation
+    }
+
+    fn over_limit(&mut self, limit: u32) {
+        let (tree, place) = (self.picture.tree, self.place);
+        let node = word::name(tree.word(place));
+        self.explanation.least_limit = least_limit(tree.words);
+        let around = context(tree, place);
+        let mut what = format!("The type of the {node}");
+        let measured = if tree.word(place) == UP {
+            // what the annotation steps to is measured first, then the annotation, which is the cast's type
+            let annotation = tree.slice(tree.first(place));
+            match self.asker.measure_step_in(&around, annotation, limit) {
+                Measured::Words(stepped) if stepped.len() <= limit as usize => Measured::Words(annotation.to_vec()),
+                stepped => {
+                    what = "What the annotation steps to".to_string();
+                    stepped
+                }
+            }
+        } else {
+            self.asker.measure_in(&around, tree.slice(place), limit)
+        };
+        match measured {
+            Measured::Words(words) => {
+                self.say(format!("{what} has {} words, and the limit is {limit}.", words.len()));
+                self.state("too_long", place, words, None);
+            }
+            Measured::Length(length) => {
+                self.say(format!("{what} has {length} words, and the limit is {limit}."));
+                self.say("(Beside its context it is too long to be asked for itself.)");
+            }
+            Measured::Over => self.say(format!("{what} has over 1,024 words, and the limit is {limit}.")),
+            Measured::Unknown => {
+                self.explanation.complete = false;
+                self.say(format!("A type measured at the {node} is longer than the limit, {limit}: it cannot be told here which."));
+            }
+        }
+        match self.explanation.least_limit {
+            Some(least) => {
+                let answer = answer(tree.words, least);
+                self.say(format!("From the limit {least} on the answer is another: {answer}."));
+            }
+            None => self.say("At no limit is the answer another."),
+        }
+    }
+
+    fn say(&mut self, sentence: impl AsRef<str>) {
+        if !self.explanation.message.is_empty() {
+            self.explanation.message.push(' ');
+        }
+        self.explanation.message.push_str(sentence.as_ref());
+    }
+
+    fn hint(&mut self, hint: String) {
+        self.explanation.hint = Some(hint);
+    }
+
+    /// The type of a term that stands where the node at `place` does.
+    fn ask(&mut self, place: usize, term: &[u16]) -> Result<Vec<u16>, Refusal> {
+        self.asker.type_in(&context(self.picture.tree, place), term)
+    }
+
+    fn type_of(&mut self, what: &str, place: usize) -> Option<Vec<u16>> {
+        let answer = self.ask(place, self.picture.tree.slice(place));
+        self.answered(&format!("the type of the {what}"), answer)
+    }
+
+    /// An answer, or that there is none.
+    fn answered(&mut self, what: &str, answer: Result<Vec<u16>, Refusal>) -> Option<Vec<u16>> {
+        if let Err(refusal) = answer {
+            self.explanation.complete = false;
+            self.say(format!(
+                "It cannot be told here what {what} is: asked for in its context, it is refused by {}.",
+                refusal.reason.number()
+            ));
+        }
+        answer.ok()
+    }
+
+    /// What was expected and what was found, both in the context of the node at `place`, their first difference marked; and whether a
+    /// cast of the part found would do.
+    fn compare(&mut self, place: usize, expected: Option<Vec<u16>>, found: Option<Vec<u16>>, what: &str, part: usize) {
+        let difference = match (&expected, &found) {
+            (Some(expected), Some(found)) => expected.iter().zip(found).position(|(a, b)| a != b).filter(|&at| at > 0),
+            _ => None,
+        };
+        if let Some(expected) = &expected {
+            self.state("expected", place, expected.clone(), difference);
+        }
+        if let Some(found) = found {
+            self.state("found", place, found, difference);
+        }
+        let Some(expected) = expected else { return };
+        let part = self.picture.tree.slice(part);
+        if self.ask(place, &[&[DOWN][..], part].concat()).as_ref() == Ok(&expected) {
+            self.hint(format!("A down cast of the {what} would have the expected type."));
+        } else if self.ask(place, &[&[UP][..], &expected, part].concat()).as_ref() == Ok(&expected) {
+            self.hint(format!("An up cast of the {what} to the expected type would have that type."));
+        }
+    }
+
+    /// A part of the term as a fact.
+    fn part(&mut self, name: &'static str, place: usize) {
+        self.state(name, place, self.picture.tree.slice(place).to_vec(), None);
+    }
+
+    /// A fact in the context of the node at `place`.
+    fn state(&mut self, name: &'static str, place: usize, words: Vec<u16>, mark: Option<usize>) {
+        let text = self.text(place, &words, mark);
+        self.explanation.facts.push(Fact { name, words, text });
+    }
+
+    fn text(&mut self, place: usize, words: &[u16], mark: Option<usize>) -> String {
+        let Picture { style, tree, names, .. } = self.picture;
+        let own = Tree::of(words).expect("a part or a type is one term");
+        let around: Vec<usize> = tree.binders(place).collect();
+        for at in 0..words.len() {
+            if let Some(Bound::Free(index)) = own.bound(at) {
+                self.mentioned.extend(around.get(index));
+            }
+        }
+        let own_names = Names::of(&own, names.scope(tree, place));
+        let near = (words.len() > LONG).then_some(mark.unwrap_or(0));
+        Picture { style, tree: &own, names: &own_names, mark, near }.text()
+    }
+
+    /// The variables that facts mention, and those that their annotations do.
+    fn name_variables(&mut self) {
+        let Picture { tree, names, .. } = self.picture;
+        let mut variables = Vec::new();
+        // an annotation mentions only variables of binders further out, which stand before it
+        while let Some(binder) = self.mentioned.pop_last() {
+            let annotation = tree.first(binder);
+            let words = tree.slice(annotation).to_vec();
+            let text = self.text(annotation, &words, None);
+            variables.push(Variable { name: names.name(binder).map_or("_".to_string(), spell), words, text });
+        }
+        variables.reverse();
+        self.explanation.variables = variables;
+    }
+}
+
+/// The annotations around a node, the outermost first.
+fn context<'a>(tree: &Tree<'a>, place: usize) -> Vec<&'a [u16]> {
+    let mut annotations: Vec<&[u16]> = tree.binders(place).map(|binder| tree.slice(tree.first(binder))).collect();
+    annotations.reverse();
+    annotations
+}
+
+/// Of a type that does not step: by document 01, star, abstractions, products and up casts are values.
+fn why_no_step(of: &[u16]) -> &'static str {
+    match of[0] {
+        word::STAR | word::ABSTRACTION | word::PRODUCT | word::UP => "a value",
+        _ => "stuck",
+    }
+}
