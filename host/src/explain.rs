@@ -84,6 +84,20 @@ pub struct Explanation {
 }
 
 impl Explanation {
+    /// An explanation that says nothing more than the refusal, to be filled in.
+    pub fn of(refusal: Refusal) -> Explanation {
+        Explanation {
+            refusal,
+            shown: None,
+            message: String::new(),
+            facts: Vec::new(),
+            variables: Vec::new(),
+            hint: None,
+            least_limit: None,
+            complete: true,
+        }
+    }
+
     /// The fact of a name.
     pub fn fact(&self, name: &str) -> Option<&Fact> {
         self.facts.iter().find(|fact| fact.name == name)
@@ -125,16 +139,7 @@ impl Style {
     /// A refusal that is not the answer to that term at that limit is not explained, but said to be none; refusals 2 and 3 depend on
     /// the slices, and are taken as they are.
     pub fn explain(&self, term: &[u16], refusal: Refusal, limit: u32) -> Explanation {
-        let mut explanation = Explanation {
-            refusal,
-            shown: None,
-            message: String::new(),
-            facts: Vec::new(),
-            variables: Vec::new(),
-            hint: None,
-            least_limit: None,
-            complete: true,
-        };
+        let mut explanation = Explanation::of(refusal);
         if let Some(message) = another_answer(term, refusal, limit) {
             return Explanation { message, complete: false, ..explanation };
         }

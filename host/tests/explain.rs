@@ -175,7 +175,7 @@ fn lists_that_are_no_term() {
     let long = explained_at(64, &[0; 1025]);
     assert_eq!(long.message, "The list has 1025 words, and a term has 1 to 1,024.");
     // words far from the place are left out
-    let many = explained_at(64, &[vec![5, 0].repeat(20), vec![7], vec![0; 20]].concat());
+    let many = explained_at(64, &[[5, 0].repeat(20), vec![7], vec![0; 20]].concat());
     assert_eq!(many.shown.unwrap(), "… 5 0 5 0 5 0 5 0 5 0 5 0 ⟦7⟧ 0 0 0 0 0 0 0 0 0 0 0 0 …");
 }
 
@@ -228,13 +228,13 @@ fn limits_of_what_can_be_asked() {
 
 #[test]
 fn long_terms_are_cut_short() {
-    let long = [vec![5, 5, 0, 0].repeat(60), vec![4, 0, 16]].concat();
+    let long = [[5, 5, 0, 0].repeat(60), vec![4, 0, 16]].concat();
     let explanation = explained_at(1024, &long);
     assert_eq!(explanation.refusal.reason.number(), 10);
     let shown = explanation.shown.unwrap();
     assert!(shown.contains("⟦λ x : ⋆. x⟧"));
     // what stands far from the place is left out
-    let other = [vec![5], vec![5, 0].repeat(50), vec![0, 5, 0], vec![5, 0].repeat(20), vec![4, 0, 16]].concat();
+    let other = [vec![5], [5, 0].repeat(50), vec![0, 5, 0], [5, 0].repeat(20), vec![4, 0, 16]].concat();
     let explanation = explained_at(1024, &other);
     assert!(explanation.shown.as_deref().unwrap().starts_with("… → ⋆ → ⋆ → "), "{:?}", explanation.shown);
 }
