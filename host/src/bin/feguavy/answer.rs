@@ -45,8 +45,9 @@ impl<'a> Desk<'a> {
                 Ok(found) => typed(self.options, self.style, input, found),
                 Err(refusal) => self.explained(input, &self.style.explain(&term, refusal, self.options.limit)),
             },
-            Command::Run => match self.buffers.run(&term, self.options.budget, u32::MAX) {
-                (ran, state) => match ran.answer {
+            Command::Run => {
+                let (ran, state) = self.buffers.run(&term, self.options.budget, u32::MAX);
+                match ran.answer {
                     Ok(ended) => {
                         let text = text(self.style, state);
                         let json = || {
@@ -56,8 +57,8 @@ impl<'a> Desk<'a> {
                         line(self.options, input, ACCEPTED, &format!("{ended}: {text}"), json)
                     }
                     Err(refusal) => self.refused(input, refusal),
-                },
-            },
+                }
+            }
             Command::Show => match self.style.show(&term) {
                 Ok(text) => {
                     let json = || named(input, "shown").words("words", &term).text("text", &text).end();

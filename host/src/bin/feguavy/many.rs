@@ -54,11 +54,14 @@ pub fn each(options: &Options, output: &mut impl Write, status: &mut u8) -> io::
 }
 
 fn write(answers: &[Answer], output: &mut impl Write, status: &mut u8, progress: &mut Progress) -> io::Result<()> {
-    progress.clear();
+    if progress.shares_the_terminal {
+        progress.clear();
+    }
     for answer in answers {
         *status = answer.status.max(*status);
         output.write_all(answer.text.as_bytes())?;
         if let Some(complaint) = &answer.complaint {
+            progress.clear();
             // in the order of the inputs where both go to one place
             output.flush()?;
             complain(complaint);
@@ -72,13 +75,16 @@ struct Progress {
     done: usize,
     all: usize,
     on: bool,
+    /// The answers go to the terminal, too: the line is cleared before them.
+    shares_the_terminal: bool,
     drawn: bool,
     last: Instant,
 }
 
 impl Progress {
     fn of(all: usize) -> Progress {
-        Progress { done: 0, all, on: all > 1 && io::stderr().is_terminal(), drawn: false, last: Instant::now() }
+        let on = all > 1 && io::stderr().is_terminal();
+        Progress { done: 0, all, on, shares_the_terminal: io::stdout().is_terminal(), drawn: false, last: Instant::now() }
     }
 
     fn done(&mut self, count: usize, output: &mut impl Write) -> io::Result<()> {
@@ -95,5 +101,11 @@ impl Progress {
         if std::mem::take(&mut self.drawn) {
             _ = write!(io::stderr(), "\r\x1b[K");
         }
+    }
+}
+
+impl Drop for Progress {
+    fn drop(&mut self) {
+        self.clear();
     }
 }
