@@ -1,12 +1,14 @@
 //! Refusals explained: what was expected at the place refused, and what the proved check finds there.
 
 use crate::ask::{least_limit, Asker, Measured};
-use crate::show::{spell, Names, Picture, Scope, Sign, Style};
+use crate::explanation::{Explanation, Fact, Variable, LABEL, MARGIN};
+use crate::names::{spell, Names, Scope};
+use crate::reading;
+use crate::show::{Picture, Sign, Style};
 use crate::tree::{Bound, Tree};
 use crate::word::{self, DOWN, PRODUCT, STAR, UP, VARIABLE};
 use crate::{check, check_work, Checked, Reason, Refusal, LARGEST_LIMIT};
 use std::collections::BTreeSet;
-use std::fmt;
 
 /// Explains why a check of a term at a limit is refused, in the style of [`Style::default`]: see [`Style::explain`].
 ///
@@ -37,102 +39,6 @@ pub fn explain(term: &[u16], refusal: Refusal, limit: u32) -> Explanation {
     Style::default().explain(term, refusal, limit)
 }
 
-/// A term or a type that an explanation names.
-#[derive(Clone, Debug, PartialEq, Eq, Hash)]
-pub struct Fact {
-    /// What it is: `part`, `function`, `argument`, `body`, `annotation` are parts of the term; `function_type`, `body_type`,
-    /// `expected`, `found` and `too_long` are types.
-    pub name: &'static str,
-    /// Its words, in the context of the part that it is about: free variables are those of the binders around that part.
-    pub words: Vec<u16>,
-    /// The same as text. Where something was expected and something else found, the first difference is marked. What is long is cut
-    /// short.
-    pub text: String,
-}
-
-/// A variable that a fact mentions.
-#[derive(Clone, Debug, PartialEq, Eq, Hash)]
-pub struct Variable {
-    /// Its name.
-    pub name: String,
-    /// Its annotation, in the context of its binder.
-    pub words: Vec<u16>,
-    /// The same as text.
-    pub text: String,
-}
-
-/// What there is to say about a refusal.
-#[derive(Clone, Debug, PartialEq, Eq, Hash)]
-pub struct Explanation {
-    /// The refusal.
-    pub refusal: Refusal,
-    /// The term with the part at the refusal's place marked, by `⟦` and `⟧` or, in ASCII, `{` and `}`; where the list is no term, the
-    /// words around the place. What is long is cut short.
-    pub shown: Option<String>,
-    /// What is wrong there.
-    pub message: String,
-    /// The terms and types on which it turns.
-    pub facts: Vec<Fact>,
-    /// The variables of the facts, the outermost first.
-    pub variables: Vec<Variable>,
-    /// What would do instead, where one cast more is enough.
-    pub hint: Option<String>,
-    /// Of refusal 16: the least limit at which the answer is another; see [`least_limit`].
-    pub least_limit: Option<u32>,
-    /// Whether all of it could be told: a part's type cannot be asked where it would be too long beside the part's context.
-    pub complete: bool,
-}
-
-impl Explanation {
-    /// An explanation that says nothing more than the refusal, to be filled in.
-    pub fn of(refusal: Refusal) -> Explanation {
-        Explanation {
-            refusal,
-            shown: None,
-            message: String::new(),
-            facts: Vec::new(),
-            variables: Vec::new(),
-            hint: None,
-            least_limit: None,
-            complete: true,
-        }
-    }
-
-    /// The fact of a name.
-    pub fn fact(&self, name: &str) -> Option<&Fact> {
-        self.facts.iter().find(|fact| fact.name == name)
-    }
-}
-
-/// Where the text of a fact begins.
-const MARGIN: usize = 4;
-const LABEL: usize = 15;
-
-impl fmt::Display for Explanation {
-    fn fmt(&self, f: &mut fmt::Formatter) -> fmt::Result {
-        let indented = |text: &str, by: usize| text.replace('\n', &format!("\n{:by$}", ""));
-        write!(f, "{}", self.refusal)?;
-        if let Some(shown) = &self.shown {
-            write!(f, "\n\n{:MARGIN$}{}", "", indented(shown, MARGIN))?;
-        }
-        write!(f, "\n\n{}", self.message)?;
-        for (i, fact) in self.facts.iter().enumerate() {
-            let label = fact.name.replace('_', " ");
-            let space = if i == 0 { "\n\n" } else { "\n" };
-            write!(f, "{space}{:MARGIN$}{label:LABEL$}{}", "", indented(&fact.text, MARGIN + LABEL))?;
-        }
-        for (i, variable) in self.variables.iter().enumerate() {
-            let label = if i == 0 { "where" } else { "" };
-            let text = format!("{} : {}", variable.name, variable.text);
-            write!(f, "\n{:MARGIN$}{label:LABEL$}{}", "", indented(&text, MARGIN + LABEL))?;
-        }
-        if let Some(hint) = &self.hint {
-            write!(f, "\n\n{hint}")?;
-        }
-        Ok(())
-    }
-}
-
 impl Style {
     /// Explains why a check of a term at a limit is refused. Of refusals 10 to 16 every type is one that the proved check answers to
     /// a question: the type of an open part is asked for under abstractions over its context, and what a type steps to by a cast.
@@ -155,75 +61,11 @@ impl Style {
                     return asked.explained(refusal.reason, limit);
                 }
             }
-            _ if refusal.reason.has_place() => explanation.shown = Some(self.words_around(term, refusal.place)),
+            _ if refusal.reason.has_place() => explanation.shown = Some(reading::words_around(*self, term, refusal.place)),
             _ => {}
         }
-        explanation.message = self.unread(term, refusal, limit);
+        explanation.message = reading::message(term, refusal, limit);
         explanation
-    }
-
-    /// What is wrong with a call, or with a list that is read as no closed term.
-    fn unread(&self, term: &[u16], refusal: Refusal, limit: u32) -> String {
-        let place = refusal.place;
-        let path = path(term, place);
-        let awaited = match path.last() {
-            Some(&(node, number)) => format!("the {} is awaited", part_of(term, node, number)),
-            None => "the term is awaited".to_string(),
-        };
-        match refusal.reason {
-            Reason::LimitNotAllowed => format!("The limit is {limit}, and must be from 1 to 1,024."),
-            Reason::WorkShort => {
-                "A check needs a working slice of 512 words for each word of the limit, a run one of 4,096 words.".to_string()
-            }
-            Reason::OutputShort => {
-                "A check needs an output slice of as many words as the limit, a run a state slice of 1,024 words.".to_string()
-            }
-            Reason::LengthNotAllowed => format!("The list has {} words, and a term has 1 to 1,024.", term.len()),
-            Reason::NoMeaning => {
-                let word = term[place];
-                format!("The word {word} means nothing where {awaited}: nodes are 0 to 6, and variables 16 to 2,047.")
-            }
-            Reason::ListEnds => format!("The list ends after {} words where {awaited}.", term.len()),
-            Reason::WordsAfter => {
-                let over = term.len() - place;
-                let words = if over == 1 { "one more word follows".to_string() } else { format!("{over} more words follow") };
-                format!("The term ends before place {place}, and {words}.")
-            }
-            Reason::Level65 => {
-                format!("The {} stands at level {}, and the lowest level of a term is 64.", word::name(term[place]), path.len() + 1)
-            }
-            _ => {
-                let index = term[place] - VARIABLE;
-                match path.iter().filter(|&&(node, number)| word::binds(term[node]) && number == 2).count() {
-                    0 => format!("The variable has index {index}, and stands under no binder."),
-                    1 => format!("The variable has index {index}, and stands under one binder, whose variable has index 0."),
-                    count => {
-                        let last = count - 1;
-                        format!("The variable has index {index}, and stands under {count} binders, whose variables have the indices 0 to {last}.")
-                    }
-                }
-            }
-        }
-    }
-
-    /// The words of a list around a place, which is marked.
-    fn words_around(&self, words: &[u16], place: usize) -> String {
-        const AROUND: usize = 12;
-        let (start, end) = (place.saturating_sub(AROUND), words.len().min(place + AROUND + 1));
-        let mut texts: Vec<String> = words[start..end].iter().map(|word| word.to_string()).collect();
-        let marked = texts.get(place - start).cloned().unwrap_or_default();
-        let marked = format!("{}{marked}{}", self.sign(Sign::MarkOpens), self.sign(Sign::MarkCloses));
-        match texts.get_mut(place - start) {
-            Some(text) => *text = marked,
-            None => texts.push(marked),
-        }
-        if start > 0 {
-            texts.insert(0, self.sign(Sign::LeftOut).to_string());
-        }
-        if end < words.len() {
-            texts.push(self.sign(Sign::LeftOut).to_string());
-        }
-        texts.join(" ")
     }
 }
 
@@ -248,29 +90,6 @@ fn answer(term: &[u16], limit: u32) -> Checked {
     check(term, limit, &mut vec![0; check_work(allowed)], &mut vec![0; allowed as usize])
 }
 
-/// The nodes in which a place of a list stands, the outermost first, and in which part of each.
-fn path(words: &[u16], place: usize) -> Vec<(usize, usize)> {
-    let mut open: Vec<(usize, usize)> = Vec::new();
-    for (at, &word) in words.iter().enumerate().take(place) {
-        if word::parts(word) > 0 {
-            open.push((at, 1));
-            continue;
-        }
-        while let Some((node, number)) = open.pop() {
-            if number < word::parts(words[node]) {
-                open.push((node, number + 1));
-                break;
-            }
-        }
-    }
-    open
-}
-
-/// `annotation of the abstraction at place 0`
-fn part_of(words: &[u16], node: usize, number: usize) -> String {
-    format!("{} of the {} at place {node}", word::part_name(words[node], number), word::name(words[node]))
-}
-
 /// An explanation in the making, of a refusal by the rules of typing.
 struct Asked<'a> {
     picture: Picture<'a>,
@@ -293,8 +112,8 @@ impl<'a> Asked<'a> {
         let star = self.picture.style.sign(Sign::Star);
         match reason {
             Reason::NotStar => {
-                let path = path(tree.words, place);
-                let part = path.last().map_or("part".to_string(), |&(node, number)| part_of(tree.words, node, number));
+                let path = reading::path(tree.words, place);
+                let part = path.last().map_or("part".to_string(), |&(node, number)| reading::part_of(tree.words, node, number));
                 self.say(format!("The {part} must be a type: its own type must be {star}."));
                 self.part("part", place);
                 let found = self.type_of("part", place);

@@ -4,7 +4,7 @@
 //! slices. [`Buffers`] has slices of the right lengths.
 //!
 //! ```
-//! use feguavy::{show, Buffers};
+//! use feguavy::{explain, show, Buffers};
 //!
 //! // λ x : ⋆. x
 //! let mut buffers = Buffers::for_limit(64);
@@ -13,6 +13,7 @@
 //!
 //! let refusal = buffers.type_of(&[1, 0]).unwrap_err();
 //! assert_eq!(refusal.to_string(), "a cast whose type does not step, at place 0 (refusal 13)");
+//! assert_eq!(explain(&[1, 0], refusal, 64).message, "The body's type must take a step, and does not: it is a value.");
 //! ```
 //!
 //! What is proved is what the archive answers: [`check`], [`run`] and [`part`]. What is shown and explained is put together here,
@@ -26,8 +27,11 @@ mod ask;
 mod bytes;
 mod calls;
 mod explain;
+mod explanation;
 mod layout;
+mod names;
 mod raw;
+mod reading;
 #[doc(hidden)]
 pub mod shapes;
 mod show;
@@ -37,7 +41,7 @@ mod word;
 pub use answers::{Checked, End, Ended, Ran, Reason, Refusal, UnknownNumber};
 pub use ask::least_limit;
 pub use bytes::{bytes_from_words, words_from_bytes};
-pub use calls::length;
-pub use calls::{check, check_work, part, run, Buffers, LARGEST_LIMIT, LONGEST, RUN_WORK};
-pub use explain::{explain, Explanation, Fact, Variable};
+pub use calls::{check, check_work, length, part, run, Buffers, LARGEST_LIMIT, LONGEST, RUN_WORK};
+pub use explain::explain;
+pub use explanation::{Explanation, Fact, Variable};
 pub use show::{show, Style};

@@ -1,6 +1,7 @@
 //! Terms as text for people, in the notation of document 002, appendix A.
 
 use crate::layout::{lay_out, Piece};
+use crate::names::{spell, Names, Scope};
 use crate::tree::{Bound, Tree};
 use crate::word::{binds, ABSTRACTION, APPLICATION, DOWN, PRODUCT, RECURSION, STAR, UP};
 use crate::Refusal;
@@ -92,74 +93,6 @@ pub(crate) enum Sign {
     MarkOpens,
     MarkCloses,
     LeftOut,
-}
-
-/// The names of the free variables, the innermost first, and how many names are taken. A name is a number, and none is the name of a
-/// variable that nothing uses.
-#[derive(Clone, Debug, Default)]
-pub(crate) struct Scope {
-    pub free: Vec<Option<usize>>,
-    pub taken: usize,
-}
-
-/// The letters of a name's number.
-pub(crate) fn spell(name: usize) -> String {
-    const LETTERS: &[u8; 26] = b"xyzabcdefghijklmnopqrstuvw";
-    let letter = LETTERS[name % 26] as char;
-    match name / 26 {
-        0 => letter.to_string(),
-        round => format!("{letter}{round}"),
-    }
-}
-
-/// The names of a term's binders.
-#[derive(Clone, Debug)]
-pub(crate) struct Names {
-    /// By the binder's place.
-    of: Vec<Option<usize>>,
-    /// How many names are taken around each node. A binder's name is taken in both its parts, though it is in scope in the second
-    /// alone, so that none stands for two things in one line.
-    taken: Vec<usize>,
-    outside: Scope,
-}
-
-impl Names {
-    /// A used variable is given the first name that is not taken around its binder.
-    pub fn of(tree: &Tree, outside: Scope) -> Names {
-        let count = tree.words.len();
-        let mut used = vec![false; count];
-        for place in 0..count {
-            if let Some(Bound::By(binder)) = tree.bound(place) {
-                used[binder] = true;
-            }
-        }
-        let (mut of, mut taken) = (vec![None; count], vec![outside.taken; count]);
-        for place in 0..count {
-            of[place] = used[place].then_some(taken[place]);
-            for part in tree.parts(place) {
-                taken[part] = taken[place] + used[place] as usize;
-            }
-        }
-        Names { of, taken, outside }
-    }
-
-    /// The name of the variable of the binder at a place.
-    pub fn name(&self, binder: usize) -> Option<usize> {
-        self.of[binder]
-    }
-
-    /// The scope in which a node stands.
-    pub fn scope(&self, tree: &Tree, place: usize) -> Scope {
-        let around = tree.binders(place).map(|binder| self.of[binder]);
-        Scope { free: around.chain(self.outside.free.iter().copied()).collect(), taken: self.taken[place] }
-    }
-
-    fn of_free(&self, index: usize) -> String {
-        match self.outside.free.get(index) {
-            Some(Some(name)) => spell(*name),
-            _ => format!("#{index}"),
-        }
-    }
 }
 
 /// A term to be drawn: in which style, with which names, which node is marked, and what is to be drawn near, the rest left out.
@@ -276,7 +209,7 @@ impl Picture<'_> {
             PRODUCT => Sign::Product,
             _ => Sign::Recursion,
         };
-        let name = self.names.of[place].map_or_else(|| "_".to_string(), spell);
+        let name = self.names.name(place).map_or_else(|| "_".to_string(), spell);
         // binders one under another keep to one column, and what a function or recursion does stands to the right of it
         let (position, indent) = match self.tree.word(self.tree.second(place)) {
             _ if word == PRODUCT => (Position::Codomain, 0),
@@ -294,7 +227,7 @@ impl Picture<'_> {
 
     fn variable(&self, place: usize) -> String {
         match self.tree.bound(place) {
-            Some(Bound::By(binder)) => spell(self.names.of[binder].expect("a used variable has a name")),
+            Some(Bound::By(binder)) => spell(self.names.name(binder).expect("a used variable has a name")),
             Some(Bound::Free(index)) => self.names.of_free(index),
             None => unreachable!("a word with meaning that is no node with parts is a variable"),
         }
@@ -302,7 +235,7 @@ impl Picture<'_> {
 
     /// A product whose variable is not used.
     fn is_arrow(&self, place: usize) -> bool {
-        self.tree.word(place) == PRODUCT && self.names.of[place].is_none()
+        self.tree.word(place) == PRODUCT && self.names.name(place).is_none()
     }
 
     fn in_parentheses(&self, place: usize, word: u16, position: Position) -> bool {
