@@ -1,6 +1,7 @@
 //! Questions to the proved check about the parts of a term.
 
-use crate::word::{ABSTRACTION, DOWN, RECURSION, VARIABLE};
+use crate::tree::{Bound, Tree};
+use crate::word::{ABSTRACTION, DOWN, RECURSION, STAR, VARIABLE};
 use crate::{check, check_work, Buffers, Checked, Reason, Refusal, LARGEST_LIMIT};
 
 /// The annotations around a part, the outermost first: a context of document 01.
@@ -18,7 +19,7 @@ impl Asker {
     }
 
     /// The type of a term in a context. The term under abstractions over the context has a type that begins with products over the
-    /// same annotations; what is left behind them is the type asked for.
+    /// same annotations; what is left behind them is the type asked for. The term's variables are those of the context.
     pub fn type_in(&mut self, context: &Context, term: &[u16]) -> Result<Vec<u16>, Refusal> {
         let question = under(context, term);
         self.buffers.type_of(&question).map(|found| found[question.len() - term.len()..].to_vec())
@@ -66,15 +67,34 @@ pub(crate) enum Measured {
     Unknown,
 }
 
-/// A term under abstractions over a context.
+/// A term under abstractions over a context. An annotation on which nothing depends stands as star: no type is another for it, and
+/// answers are shorter.
 fn under(context: &Context, term: &[u16]) -> Vec<u16> {
     let mut question = Vec::new();
-    for annotation in context {
+    for (annotation, needed) in context.iter().zip(needed(context, term)) {
         question.push(ABSTRACTION);
-        question.extend_from_slice(annotation);
+        question.extend_from_slice(if needed { annotation } else { &[STAR] });
     }
     question.extend_from_slice(term);
     question
+}
+
+/// Which annotations are those of variables in the term, or in such an annotation.
+fn needed(context: &Context, term: &[u16]) -> Vec<bool> {
+    let mut needed = vec![false; context.len()];
+    // words, and how many annotations stand before them
+    let mut work = vec![(term, context.len())];
+    while let Some((words, before)) = work.pop() {
+        let tree = Tree::of(words).expect("what is asked about is one term");
+        for place in 0..words.len() {
+            let Some(Bound::Free(index)) = tree.bound(place) else { continue };
+            let at = before - 1 - index;
+            if !std::mem::replace(&mut needed[at], true) {
+                work.push((context[at], at));
+            }
+        }
+    }
+    needed
 }
 
 fn down_cast_of(of: &[u16]) -> Vec<u16> {

@@ -324,7 +324,7 @@ impl<'a> Asked<'a> {
             let annotation = tree.first(binder);
             let words = tree.slice(annotation).to_vec();
             let text = self.text(annotation, &words, None);
-            variables.push(Variable { name: names.name(binder).map_or("_".to_string(), spell), words, text });
+            variables.push(Variable { name: names.name(binder).map_or("_".to_string(), spell), binder, words, text });
         }
         variables.reverse();
         self.explanation.variables = variables;

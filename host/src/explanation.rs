@@ -21,6 +21,8 @@ pub struct Fact {
 pub struct Variable {
     /// Its name.
     pub name: String,
+    /// The place of its binder in the term.
+    pub binder: usize,
     /// Its annotation, in the context of its binder.
     pub words: Vec<u16>,
     /// The same as text.

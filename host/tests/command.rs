@@ -111,6 +111,8 @@ fn lines_of_json() {
         \"facts\":[{\"name\":\"body\",\"words\":[0],\"text\":\"⋆\"},{\"name\":\"found\",\"words\":[0],\"text\":\"⋆\"}],\
         \"variables\":[],\"hint\":null,\"least_limit\":null,\"complete\":true}\n";
     says(&["explain", "--json", "--words", "1 0"], &format!("{refused}{more}"), 1);
+    let (out, _, _) = with_input(&["explain", "--json", "--words", "4 0 1 16"], b"");
+    assert!(out.contains("\"variables\":[{\"name\":\"x\",\"binder\":0,\"words\":[0],\"text\":\"⋆\"}],\"hint\":null"), "{out}");
     let ended = "{\"input\":\"2 4 0 16 0\",\"answer\":\"ended\",\"end\":1,\"steps\":1,\"state\":[0],\"text\":\"⋆\"}\n";
     says(&["run", "--json", "--words", "2 4 0 16 0"], ended, 0);
     let states = "{\"input\":\"2 4 0 16 0\",\"answer\":\"state\",\"step\":0,\"state\":[2,4,0,16,0],\"text\":\"(λ x : ⋆. x) ⋆\"}\n\

@@ -200,17 +200,14 @@ fn what_is_no_refusal_of_the_term() {
     }
 }
 
+/// Products of so many levels below the first.
+fn balanced(levels: u32) -> Vec<u16> {
+    (0..levels).fold(vec![0], |tree, _| [&[5][..], &tree, &tree].concat())
+}
+
 #[test]
 fn limits_of_what_can_be_asked() {
-    // 511 words of context beside a type of as many: the length alone can be told
-    let balanced = |mut levels: u32| {
-        let mut tree = vec![0];
-        while levels > 0 {
-            tree = [&[5][..], &tree, &tree].concat();
-            levels -= 1;
-        }
-        tree
-    };
+    // 511 words of context beside a type of as many fit; with one annotation more the length alone can be told
     let annotation = balanced(8);
     assert_eq!(annotation.len(), 511);
     let term = [&[4][..], &annotation, &[16]].concat();
@@ -218,12 +215,27 @@ fn limits_of_what_can_be_asked() {
     assert_eq!(explanation.refusal, Refusal { reason: Reason::OverLimit, place: 512 });
     assert!(explanation.message.starts_with("The type of the variable has 511 words, and the limit is 510."));
     assert_eq!((explanation.complete, explanation.least_limit), (true, Some(1023)));
-    // a type of 511 words cannot be asked for beside 896 words of context, and it is said
-    let inner = [&[4][..], &annotation, &[4][..], &balanced(7), &[4][..], &balanced(6), &[1, 18]].concat();
-    let explanation = explained_at(1024, &inner);
+    assert_eq!(explanation.fact("too_long").unwrap().words, annotation);
+    let term = [&[4][..], &annotation, &[4, 0, 17]].concat();
+    let explanation = explained_at(510, &term);
+    assert!(explanation.message.starts_with("The type of the variable has 511 words, and the limit is 510."));
+    assert!(explanation.message.ends_with("At no limit is the answer another."));
+    assert_eq!((explanation.complete, explanation.least_limit, explanation.facts.len()), (true, None, 0));
+    // where such a type is needed, it is said that it cannot be told
+    let term = [&[4][..], &annotation, &[4, 0, 1, 17]].concat();
+    let explanation = explained_at(1024, &term);
     assert_eq!(explanation.refusal.reason, Reason::NoStep);
     assert!(!explanation.complete);
     assert!(explanation.message.starts_with("It cannot be told here what the type of the body is"), "{}", explanation.message);
+}
+
+#[test]
+fn annotations_that_nothing_needs_do_not_count() {
+    // beside the 896 words of the whole context the type of 255 words could not be asked for
+    let term = [&[4][..], &balanced(7), &[4], &balanced(8), &[4], &balanced(6), &[1, 18]].concat();
+    let explanation = explained_at(1024, &term);
+    assert_eq!(explanation.refusal.reason, Reason::NoStep);
+    assert_eq!((explanation.complete, &explanation.fact("found").unwrap().words), (true, &balanced(7)));
 }
 
 #[test]

@@ -4,7 +4,7 @@ use crate::input::{Held, Input};
 use crate::json::{string, Object};
 use crate::options::{Command, Options};
 use crate::{ACCEPTED, FAILED, REFUSED};
-use feguavy::{Buffers, Explanation, Reason, Refusal, Style};
+use feguavy::{Buffers, Explanation, Fact, Reason, Refusal, Style, Variable};
 
 /// What is written for an input.
 #[derive(Default)]
@@ -102,16 +102,16 @@ impl<'a> Desk<'a> {
     fn explained(&self, input: &Input, explanation: &Explanation) -> Answer {
         let Explanation { refusal, shown, message, facts, variables, hint, least_limit, complete } = explanation;
         let json = || {
-            let facts = facts.iter().map(|fact| (fact.name, &fact.words, &fact.text));
-            let variables = variables.iter().map(|variable| (&variable.name[..], &variable.words, &variable.text));
-            let object = |(name, words, text): (&str, &Vec<u16>, &String)| {
-                Object::new().text("name", name).words("words", words).text("text", text)
+            let fact = |fact: &Fact| Object::new().text("name", fact.name).words("words", &fact.words).text("text", &fact.text);
+            let variable = |variable: &Variable| {
+                let object = Object::new().text("name", &variable.name).number("binder", variable.binder);
+                object.words("words", &variable.words).text("text", &variable.text)
             };
             refused_object(input, *refusal, &refusal.to_string())
                 .optional("shown", shown.as_deref().map(string))
                 .text("message", message)
-                .objects("facts", facts.map(object))
-                .objects("variables", variables.map(object))
+                .objects("facts", facts.iter().map(fact))
+                .objects("variables", variables.iter().map(variable))
                 .optional("hint", hint.as_deref().map(string))
                 .optional("least_limit", least_limit.map(|least| least.to_string()))
                 .with("complete", if *complete { "true" } else { "false" })

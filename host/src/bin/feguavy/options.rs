@@ -60,7 +60,8 @@ Examples
 Lines of JSON: \"input\" names the input, and \"answer\" says which keys follow.
   typed       type: words, text: the type as text
   refused     reason, place: numbers (place 0 where the reason has none), text
-              explain: also shown, message, facts and variables (lists of name, words, text), hint, least_limit, complete
+              explain: also shown, message, facts (a list of name, words, text), variables (a list of name, binder, words, text),
+              hint, least_limit, complete
   ended       end, steps: numbers, state: words, text: the state as text
   state       step: a number, state: words, text (run --trace, before ended)
   shown       words, text
