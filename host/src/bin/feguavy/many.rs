@@ -9,12 +9,14 @@ use std::sync::atomic::{AtomicUsize, Ordering};
 use std::sync::mpsc;
 use std::time::{Duration, Instant};
 
-/// How many inputs a thread takes at once.
-const CHUNK: usize = 16;
+/// How many inputs a thread takes at once: few, so that all threads end at about the same time, but no wake for each small one.
+fn chunk(inputs: usize, cores: usize) -> usize {
+    (inputs / (16 * cores)).clamp(1, 256)
+}
 
 pub fn each(options: &Options, output: &mut impl Write, status: &mut u8) -> io::Result<()> {
-    let chunks: Vec<_> = options.inputs.chunks(CHUNK).collect();
     let cores = std::thread::available_parallelism().map_or(1, usize::from);
+    let chunks: Vec<_> = options.inputs.chunks(chunk(options.inputs.len(), cores)).collect();
     let mut progress = Progress::of(options.inputs.len());
     if chunks.len() < 2 || cores < 2 {
         let mut desk = Desk::new(options);
