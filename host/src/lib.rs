@@ -17,7 +17,8 @@
 //! ```
 //!
 //! What is proved is what the archive answers: [`check`], [`run`] and [`part`]. What is shown and explained is put together here,
-//! and tested; every type that an explanation names is one that [`check`] answered.
+//! and tested; every type that an explanation names is one that [`check`] answered. The command `feguavy` of this package does the
+//! same from a shell.
 
 #![warn(missing_docs)]
 #![warn(missing_debug_implementations)]
@@ -36,6 +37,7 @@ mod reading;
 pub mod shapes;
 mod show;
 mod tree;
+mod typing;
 mod word;
 
 pub use answers::{Checked, End, Ended, Ran, Reason, Refusal, UnknownNumber};

@@ -37,14 +37,14 @@ Exit status
   2  bad use, or something that cannot be read or written
 
 The words of a term, in prefix order
-  0        ⋆        the type of types
-  1 E      cast↓ E  E at the type that its type steps to
-  2 F A    F A      application
+  0        ⋆             the type of types
+  1 E      cast↓ E       E at the type that its type steps to
+  2 F A    F A           application
   3 A E    cast↑ [A] E   E at the type A, which steps to E's type
   4 A E    λ x : A. E    function
   5 A B    Π x : A. B    function type; A → B where x is not used
   6 A E    μ x : A. E    recursion
-  16 + I   the variable of the binder (4, 5, 6) that has I other binders between
+  16 + I   x             the variable of a binder (4, 5, 6), with I binders in between
   In ASCII: *, castdown E, castup [A] E, \\ x : A. E, Pi x : A. B, A -> B, mu x : A. E.
 
 Examples
