@@ -1,5 +1,6 @@
 //! The functions of the archive, as include/feguavy.h declares them. They have no `requires`: any slices and numbers will do.
 
+#[derive(Debug)]
 #[repr(C)]
 pub struct CheckedNumbers {
     pub answer: u32,
@@ -7,6 +8,7 @@ pub struct CheckedNumbers {
     pub length: u32,
 }
 
+#[derive(Debug)]
 #[repr(C)]
 pub struct RanNumbers {
     pub answer: u32,
@@ -16,6 +18,7 @@ pub struct RanNumbers {
     pub allowance: u32,
 }
 
+#[derive(Debug)]
 #[repr(C)]
 pub struct FoundNumbers {
     pub start: usize,
