@@ -1,6 +1,6 @@
 -- The tests of one word, in the order 5, 8, 9, by what the word means: the first that fails answers, and where all pass the parts
 -- do. The code knows the meaning as a variant, most often only by the number of the variant, its tag. Only a variable needs more
--- than that: the tests of every other variant go by the tag alone, and what it binds.
+-- than that: for every other variant the tag tells how the tests end and what is bound in a second part.
 use Prim.Native.Nat.{ℕ, _≤_, _<_}
 use mathlib.Core.Bool.{Bool, true, false, not, true≢false}
 use mathlib.Core.List.{List, [], _∷_}

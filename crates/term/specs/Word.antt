@@ -26,10 +26,11 @@ arity w = length (calculus.binds (calculus.meaning w))
 abbrev pub parts-table : List ℕ
 parts-table = 0 ∷ 1 ∷ 2 ∷ 2 ∷ 2 ∷ 2 ∷ 2 ∷ 0 ∷ []
 
--- The parts of a shape, and for each the number of variables that the node binds there: the nodes that bind do so "in their second
--- part only".
+-- The parts that a shape stands for, and for each the number of variables that the node binds there: it binds "in [its] second part
+-- only".
 abbrev pub shape-of : Shape → List ℕ
 shape-of s = take (s .parts) (0 ∷ s .bound ∷ [])
 
+-- What is bound in the second part, of which there may be none.
 abbrev pub second : List ℕ → ℕ
 second ks = getD ks 1 0

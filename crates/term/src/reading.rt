@@ -27,7 +27,7 @@ enum Subterm {
     Refused(Refusal),
 }
 
-// One word.
+// One word, tested: what follows it.
 enum Visit {
     Passes(Shape),
     Refused(Reason),

@@ -47,13 +47,13 @@ pub(crate) fn parts(table: &[u8; 8], word: u16) -> usize
     table[row] as usize
 }
 
-// What follows a word: so many parts, and `bound` variables of the node around the second.
+// What follows a word: the number of its parts, and how many variables it binds in the second of two.
 pub struct Shape {
     pub parts: usize,
     pub bound: u16,
 }
 
-// How many variables the node binds in its second part.
+// How many variables a word binds in its second part.
 fn bound(word: u16) -> u16
     ensures { λ r. ⌜ r ≡ second (binds (meaning word)) ⌝ }
 {
@@ -63,7 +63,7 @@ fn bound(word: u16) -> u16
     }
 }
 
-// The shape of a word: all that is decided about its parts is decided here.
+// The shape of a word, from the table and from what the word means. Nothing else tells which parts a word has.
 pub fn shape_of(table: &[u8; 8], word: u16) -> Shape
     requires { ⌜ now table ≡ parts-table ⌝ }
     ensures { λ r. ⌜ shape-of r ≡ binds (meaning word) ⌝ }

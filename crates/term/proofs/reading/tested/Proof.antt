@@ -1,5 +1,5 @@
 -- `tested` meets its contract: each return answers what the tests of a word with the meaning found there answer.
-use Prim.Native.Nat.{ℕ, _<_}
+use Prim.Native.Nat.{_<_}
 use mathlib.Core.Bool.{not}
 use mathlib.Core.List.{[], _∷_}
 use mathlib.Core.Logic.{⊎-elim}

@@ -1,5 +1,4 @@
 -- `shape_of` meets its contract: the number of a word's parts and what it binds in the second are all that there is to them.
-use mathlib.Core.Path.{_≡_}
 use borrow.Author.Needs.{needs}
 use Rattle.calculus.specs.Meaning.{meaning}
 use Rattle.term.specs.Word.{arity}
