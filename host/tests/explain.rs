@@ -273,3 +273,40 @@ fn least_limits() {
     }
     assert_eq!(least_limit(&grows), Some(63));
 }
+
+/// Any list, any refusal, any limit: there is always something to say, and what is not so is not explained.
+#[test]
+fn of_anything() {
+    const WORDS: [u16; 16] = [0, 0, 0, 0, 1, 2, 2, 3, 4, 4, 5, 5, 6, 16, 17, 7];
+    let mut state = 1u64;
+    let mut below = |n: usize| {
+        state = state.wrapping_mul(6364136223846793005).wrapping_add(1442695040888963407);
+        (state >> 33) as usize % n
+    };
+    let mut refused = [0; 17];
+    for _ in 0..40_000 {
+        let mut list: Vec<u16> = Vec::new();
+        for _ in 0..1 + below(14) {
+            let kinds = if below(4) == 0 { 16 } else { 15 };
+            list.push(WORDS[below(kinds)]);
+        }
+        // mostly one term
+        let one = feguavy::length(&list);
+        if below(8) > 0 {
+            list.truncate(one);
+        }
+        let limit = 1 + below(8) as u32;
+        if let Err(refusal) = Buffers::for_limit(limit).type_of(&list) {
+            refused[refusal.reason.number() as usize] += 1;
+            let explanation = explain(&list, refusal, limit);
+            assert!(explanation.complete && !explanation.message.contains("does not answer so"), "{list:?}");
+        }
+        let other = Refusal { reason: Reason::ALL[below(16)], place: below(16) };
+        if explain(&list, other, limit).message.is_empty() {
+            panic!("{list:?} {other} {limit}");
+        }
+    }
+    for number in [5, 6, 7, 9, 10, 11, 13, 15, 16] {
+        assert!(refused[number] > 0, "{number}: {refused:?}");
+    }
+}
