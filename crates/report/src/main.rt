@@ -147,10 +147,18 @@ fn report(bytes: &[u8], out: &mut [u8]) -> usize
     lines(found, &output, &state, out)
 }
 
+// What cannot be read or written is said on standard error: a program has no exit status to say it with.
 fn main() {
     let mut bytes = [0u8; 2049];
     let mut out = [0u8; 8192];
-    let count = io::read_full(STDIN_FILENO, &mut bytes);
+    let got = streams::read_full(STDIN_FILENO, &mut bytes);
+    if got.error != 0 {
+        return streams::say(b"report: standard input", got.error);
+    }
+    let count = got.count;
     let length = report(&bytes[..count], &mut out);
-    io::write_all(STDOUT_FILENO, &out[..length]);
+    let put = streams::write_all(STDOUT_FILENO, &out[..length]);
+    if put.error != 0 {
+        streams::say(b"report: standard output", put.error);
+    }
 }
