@@ -10,14 +10,6 @@ struct Progress {
     output: Output,
 }
 
-// Writes the answers out before a request that may take long.
-fn readied(output: Output, request: Request, out: &[u8]) -> Output {
-    if answer::lengthy(request) {
-        return output.flushed(out);
-    }
-    output
-}
-
 // Answers a request, unless the answers before it cannot be written.
 fn answered(
     before: Output,
@@ -26,7 +18,7 @@ fn answered(
     work: &mut [u16],
     out: &mut [u8],
 ) -> Output {
-    let ready = readied(before, request, out);
+    let ready = before.ready_for(request, out);
     if ready.error != 0 {
         return ready;
     }

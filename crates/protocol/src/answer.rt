@@ -17,7 +17,7 @@ const RUN: u64 = 7501166;
 const PART: u64 = 1885434484;
 
 // `refused ANSWER PLACE`.
-fn refusal(answer: u32, place: u32, out: &mut [u8], at: usize) -> usize
+pub fn refusal(answer: u32, place: u32, out: &mut [u8], at: usize) -> usize
     ensures { λ r. ⌜ Appends (ascii "refused" ++ spaced (answer ∷ place ∷ [])) (now (out .entry)) at r (now (out .exit)) ⌝ }
 {
     let named = text::bytes(b"refused", out, at);

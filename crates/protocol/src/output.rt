@@ -1,4 +1,6 @@
 // The answers on their way to standard output, and what is said of them on standard error.
+use crate::answer;
+use crate::request::Request;
 use libc::STDERR_FILENO;
 use libc::STDOUT_FILENO;
 ghost use Prim.Native.Nat.{_+_, _-_, _^_, min};
@@ -78,6 +80,14 @@ impl Output {
             }
         }
         self.flushed(out)
+    }
+
+    // Written out where the request may take long.
+    pub fn ready_for(self, request: Request, out: &[u8]) -> Self {
+        if answer::lengthy(request) {
+            return self.flushed(out);
+        }
+        self
     }
 
     // Says on standard error why the rest is not answered, and which is the first without an answer:

@@ -36,6 +36,12 @@ impl Request {
         }
     }
 
+    // The same of `count` words that are read elsewhere.
+    pub fn with_count(mut self, count: usize) -> Self {
+        self.count = count;
+        self
+    }
+
     pub fn begun(self) -> bool {
         self.any
     }

@@ -41,6 +41,13 @@ fn number(error: i32) -> u32
     if 0 < error { error as u32 } else { DEVICE }
 }
 
+// The number of the error that the system told last, just after a call that failed.
+pub fn last_error() -> u32
+    ensures { λ r. ⌜ 0 < r ⌝ }
+{
+    number(os::errno())
+}
+
 // The number of the failure that a call just answered: a write that takes nothing and says no error failed too.
 fn failure(answer: isize) -> u32
     ensures { λ r. ⌜ 0 < r ⌝ }
@@ -167,7 +174,7 @@ pub fn lines(bytes: &[u8]) -> usize
 
 // Writes a line to standard error: what failed, and the system's text for `error` where that is still the last error, or its number.
 pub fn say(what: &[u8], error: u32) {
-    if number(os::errno()) == error {
+    if last_error() == error {
         os::fail(what);
         return;
     }
