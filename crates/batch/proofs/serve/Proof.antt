@@ -1,7 +1,6 @@
 -- `serve` is safe and ends. The loop's invariant: the lent slices keep their lengths. The measure is the turns left.
 use mathlib.Core.Path.{_≡_}
 use borrow.Author.Needs.{needs}
-use native.Mathlib.Omega.{arith}
 use lib.ListN.{length}
 use Rattle.batch.proofs.serve.Statement.{statement}
 use Rattle.batch.proofs.serve.Tie as tie
@@ -13,18 +12,11 @@ Inv-loop input₀ words₀ work₀ out₀ now₀ turns₀ input words work out n
 abbrev μ-loop : tie.MeasureT-loop
 μ-loop input₀ words₀ work₀ out₀ now₀ turns₀ input words work out now turns = turns
 
-loop-again : tie.Need-loop-again Inv-loop μ-loop
-loop-again c =
-    let chunk = c .before .before .before .before .before .before in
-    let kept = chunk .take-chunk .kept .1 .1 in
-    let read = chunk .before .before .before .before .before .before .before .before .before .before .before in
-    omega (arith, kept .0, kept .1 .0, kept .1 .1 .0, read .read .kept .1 .0, read .before .before .before .loop)
-
 pub serve-spec : {M : Type 1} → statement M
 serve-spec =
     tie.close
     (tie.spec
-    Inv-loop μ-loop (λ c κs. search needs) (λ c. search needs) (λ c. search needs) (λ c κs. search needs) (λ c κs. search needs)
-    (λ c κs. search needs) (λ c. search needs) (λ c. search needs) (λ c. search needs) (λ c. search needs) (λ c. search needs)
-    (λ c κs. search needs) (λ c κs. search needs) (λ c. search needs) loop-again (λ c. search needs) (λ c. search needs)
+    Inv-loop μ-loop (λ c κs. search needs) (λ c κs. search needs) (λ c. search needs) (λ c. search needs)
+    (λ c κs. search needs) (λ c. search needs) (λ c. search needs) (λ c. search needs) (λ c. search needs)
+    (λ c. search needs) (λ c. search needs) (λ c. search needs) (λ c. search needs) (λ c. search needs)
     (λ c. search needs) (λ c. search needs) (λ c. search needs))

@@ -2,8 +2,8 @@
 use borrow.Author.Needs.{needs}
 use Rattle.text.specs.Texts.{ascii}
 use Rattle.text.proofs.Appended.{both}
-use Rattle.batch.proofs.answer.refusal.Statement.{statement}
-use Rattle.batch.proofs.answer.refusal.Tie as tie
+use Rattle.protocol.proofs.answer.refusal.Statement.{statement}
+use Rattle.protocol.proofs.answer.refusal.Tie as tie
 
 returns : tie.Need-returns
 unfolding ascii

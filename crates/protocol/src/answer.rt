@@ -70,8 +70,15 @@ fn parted(term: &[u16], number: u32, out: &mut [u8], at: usize) -> usize {
     text::spaced(part(term, number), out, named)
 }
 
+// Whether the answer may take so long that those before it should not wait for it: a run that may take this many steps.
+const LONG: u32 = 100000;
+
+pub fn lengthy(request: Request) -> bool {
+    request.verb == RUN && LONG <= request.first && LONG <= request.second
+}
+
 // Whether the line is a request: a verb with as many numbers as it takes.
-fn proper(request: Request) -> bool {
+pub fn proper(request: Request) -> bool {
     let verb = request.verb;
     let numbers = request.numbers;
     if request.wrong {
@@ -84,7 +91,7 @@ fn proper(request: Request) -> bool {
 }
 
 // The answer, or `error` where the line is no request.
-fn line(request: Request, words: &[u16], work: &mut [u16], out: &mut [u8], at: usize) -> usize {
+pub fn line(request: Request, words: &[u16], work: &mut [u16], out: &mut [u8], at: usize) -> usize {
     if !proper(request) {
         return text::bytes(b"error", out, at);
     }

@@ -1,0 +1,4 @@
+// Requests and their answers as lines of text, and what is said of them on standard error.
+pub mod answer;
+pub mod output;
+pub mod request;
