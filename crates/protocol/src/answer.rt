@@ -5,9 +5,14 @@ use feguavy::feguavy_run;
 use term::part;
 use term::walk::span;
 use text::front;
+ghost use mathlib.Core.Path.{_≡_};
+ghost use mathlib.Core.Bool.{_&&_};
 ghost use mathlib.Core.List.{[], _∷_, _++_};
+ghost use lib.Dec.{eqb, leb};
+ghost use Rattle.calculus.specs.Outcomes.{part};
 ghost use Rattle.text.specs.Appending.{Appends};
 ghost use Rattle.text.specs.Texts.{ascii, spaced};
+ghost use Rattle.protocol.specs.Answers.{check-reply, run-reply, part-line, reply, ended-by-feed, is-request, run-verb, Replies};
 
 // The verbs, their letters as one number.
 const CHECK: u64 = 426953237355;
@@ -25,7 +30,10 @@ pub fn refusal(answer: u32, place: u32, out: &mut [u8], at: usize) -> usize
 }
 
 // `typed | WORDS`, or the refusal.
-fn checked(term: &[u16], limit: u32, work: &mut [u16], out: &mut [u8], at: usize) -> usize {
+fn checked(term: &[u16], limit: u32, work: &mut [u16], out: &mut [u8], at: usize) -> usize
+    ensures { λ r. ⌜ Replies (check-reply (now (term .entry)) limit (now (work .entry)))
+        (now (work .exit)) (now (out .entry)) at r (now (out .exit)) ⌝ }
+{
     let mut result = [0u16; 1024];
     let answer = feguavy_check(term, limit, work, &mut result);
     if answer.answer != 0 {
@@ -53,7 +61,10 @@ fn ran(
     work: &mut [u16],
     out: &mut [u8],
     at: usize,
-) -> usize {
+) -> usize
+    ensures { λ r. ⌜ Replies (run-reply (now (term .entry)) budget allowance (now (work .entry)))
+        (now (work .exit)) (now (out .entry)) at r (now (out .exit)) ⌝ }
+{
     let mut result = [0u16; 1024];
     let answer = feguavy_run(term, budget, work, &mut result, allowance);
     if answer.answer != 0 {
@@ -65,7 +76,9 @@ fn ran(
 }
 
 // `part | WORDS`.
-fn parted(term: &[u16], number: u32, out: &mut [u8], at: usize) -> usize {
+fn parted(term: &[u16], number: u32, out: &mut [u8], at: usize) -> usize
+    ensures { λ r. ⌜ Appends (part-line (part (now (term .entry)) number)) (now (out .entry)) at r (now (out .exit)) ⌝ }
+{
     let named = text::bytes(b"part |", out, at);
     text::spaced(part(term, number), out, named)
 }
@@ -73,12 +86,16 @@ fn parted(term: &[u16], number: u32, out: &mut [u8], at: usize) -> usize {
 // Whether the answer may take so long that those before it should not wait for it: a run that may take this many steps.
 const LONG: u32 = 100000;
 
-pub fn lengthy(request: Request) -> bool {
+pub fn lengthy(request: Request) -> bool
+    ensures { λ r. ⌜ r ≡ eqb (request .verb) run-verb && leb 100000 (request .first) && leb 100000 (request .second) ⌝ }
+{
     request.verb == RUN && LONG <= request.first && LONG <= request.second
 }
 
 // Whether the line is a request: a verb with as many numbers as it takes.
-pub fn proper(request: Request) -> bool {
+pub fn proper(request: Request) -> bool
+    ensures { λ r. ⌜ r ≡ is-request request ⌝ }
+{
     let verb = request.verb;
     let numbers = request.numbers;
     if request.wrong {
@@ -91,7 +108,10 @@ pub fn proper(request: Request) -> bool {
 }
 
 // The answer, or `error` where the line is no request.
-pub fn line(request: Request, words: &[u16], work: &mut [u16], out: &mut [u8], at: usize) -> usize {
+pub fn line(request: Request, words: &[u16], work: &mut [u16], out: &mut [u8], at: usize) -> usize
+    ensures { λ r. ⌜ Replies (reply request (now (words .entry)) (now (work .entry)))
+        (now (work .exit)) (now (out .entry)) at r (now (out .exit)) ⌝ }
+{
     if !proper(request) {
         return text::bytes(b"error", out, at);
     }
@@ -107,13 +127,10 @@ pub fn line(request: Request, words: &[u16], work: &mut [u16], out: &mut [u8], a
 }
 
 // Appends the answer and a line feed.
-pub fn answer(
-    request: Request,
-    words: &[u16],
-    work: &mut [u16],
-    out: &mut [u8],
-    at: usize,
-) -> usize {
+pub fn answer(request: Request, words: &[u16], work: &mut [u16], out: &mut [u8], at: usize) -> usize
+    ensures { λ r. ⌜ Replies (ended-by-feed (reply request (now (words .entry)) (now (work .entry))))
+        (now (work .exit)) (now (out .entry)) at r (now (out .exit)) ⌝ }
+{
     let end = line(request, words, work, out, at);
     text::byte(b'\n', out, end)
 }

@@ -8,6 +8,7 @@ ghost use mathlib.Core.Path.{_≡_};
 ghost use mathlib.Core.List.{_++_};
 ghost use Rattle.text.specs.Appending.{Appends};
 ghost use Rattle.text.specs.Texts.{ascii, decimal};
+ghost use Rattle.protocol.specs.Outputs.{one-more, Flushed, Roomy};
 
 // Room for the longest line: a thousand words, and a path.
 const LONGEST: usize = 16384;
@@ -29,7 +30,9 @@ fn sum(a: u64, b: u64) -> u64
 }
 
 impl Output {
-    pub fn new() -> Self {
+    pub fn new() -> Self
+        ensures { λ r. ⌜ r ≡ record { filled = 0; answered = 0; written = 0; error = 0 } ⌝ }
+    {
         Output {
             filled: 0,
             answered: 0,
@@ -39,7 +42,9 @@ impl Output {
     }
 
     // With one more answer, which ends at `end`.
-    pub fn answered(self, end: usize) -> Self {
+    pub fn answered(self, end: usize) -> Self
+        ensures { λ r. ⌜ r ≡ one-more self end ⌝ }
+    {
         Output {
             filled: end,
             answered: sum(self.answered, 1),
@@ -49,7 +54,9 @@ impl Output {
     }
 
     // With the buffer written out. Where that failed once, nothing is written behind the gap.
-    pub fn flushed(self, out: &[u8]) -> Self {
+    pub fn flushed(self, out: &[u8]) -> Self
+        ensures { λ r. ⌜ Flushed self (now (out .entry)) r ⌝ }
+    {
         if self.error != 0 {
             return self;
         }
@@ -72,7 +79,9 @@ impl Output {
     }
 
     // Written out where the longest line might not fit.
-    pub fn with_room(self, out: &[u8]) -> Self {
+    pub fn with_room(self, out: &[u8]) -> Self
+        ensures { λ r. ⌜ Roomy self (now (out .entry)) r ⌝ }
+    {
         let filled = self.filled;
         if filled < out.len() {
             if LONGEST <= out.len() - filled {
