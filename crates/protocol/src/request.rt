@@ -1,6 +1,11 @@
 // A request line, read byte by byte: fields of decimal digits parted by spaces, tabs or carriage returns. Words beyond the
 // 1,025th are tested and not kept: a term of so many words is refused by its length.
 
+ghost use mathlib.Core.Path.{_≡_};
+ghost use Rattle.protocol.specs.Requests.{
+    unread, refused, letter, digit, number, line-of, word, field-end, barred, finished
+};
+
 // What is known of a line so far.
 pub struct Request {
     // 0 before the verb's end, 1 among the numbers, 2 behind the bar
@@ -21,7 +26,9 @@ pub struct Request {
 }
 
 impl Request {
-    pub fn new() -> Self {
+    pub fn new() -> Self
+        ensures { λ r. ⌜ r ≡ unread ⌝ }
+    {
         Request {
             phase: 0,
             verb: 0,
@@ -36,7 +43,9 @@ impl Request {
         }
     }
 
-    pub fn begun(self) -> bool {
+    pub fn begun(self) -> bool
+        ensures { λ r. ⌜ r ≡ self .any ⌝ }
+    {
         self.any
     }
 
@@ -53,13 +62,17 @@ impl Request {
     }
 
     // The line is no request.
-    fn refused(mut self) -> Self {
+    fn refused(mut self) -> Self
+        ensures { λ r. ⌜ r ≡ refused self ⌝ }
+    {
         self.wrong = true;
         self
     }
 
     // One letter of the verb, which has at most five: the four before it are a number of 32 bits.
-    fn letter(mut self, byte: u8) -> Self {
+    fn letter(mut self, byte: u8) -> Self
+        ensures { λ r. ⌜ r ≡ letter self byte ⌝ }
+    {
         if self.phase != 0 {
             return self.refused();
         }
@@ -72,7 +85,9 @@ impl Request {
     }
 
     // One digit of a number or a word. A field of more than 32 bits is too large for either.
-    fn digit(mut self, value: u8) -> Self {
+    fn digit(mut self, value: u8) -> Self
+        ensures { λ r. ⌜ r ≡ digit self value ⌝ }
+    {
         if self.phase == 0 {
             return self.refused();
         }
@@ -85,7 +100,9 @@ impl Request {
     }
 
     // The field is at its end: the verb, a number or a word.
-    fn field_ended(mut self, words: &mut [u16]) -> Self {
+    fn field_ended(mut self, words: &mut [u16]) -> Self
+        ensures { λ r. ⌜ line-of r (now (words .exit)) ≡ field-end self (now (words .entry)) ⌝ }
+    {
         if self.width == 0 {
             return self;
         }
@@ -104,7 +121,9 @@ impl Request {
     }
 
     // A number of 32 bits, of which a request has two at most.
-    fn number(mut self, value: u64) -> Self {
+    fn number(mut self, value: u64) -> Self
+        ensures { λ r. ⌜ r ≡ number self value ⌝ }
+    {
         if 4294967295 < value {
             return self.refused();
         }
@@ -122,7 +141,9 @@ impl Request {
     }
 
     // A word of 16 bits, kept where there is room.
-    fn word(mut self, value: u64, words: &mut [u16]) -> Self {
+    fn word(mut self, value: u64, words: &mut [u16]) -> Self
+        ensures { λ r. ⌜ line-of r (now (words .exit)) ≡ word self value (now (words .entry)) ⌝ }
+    {
         if 65535 < value {
             return self.refused();
         }
@@ -135,7 +156,9 @@ impl Request {
     }
 
     // The bar between the numbers and the words.
-    fn bar(self, words: &mut [u16]) -> Self {
+    fn bar(self, words: &mut [u16]) -> Self
+        ensures { λ r. ⌜ line-of r (now (words .exit)) ≡ barred (field-end self (now (words .entry))) ⌝ }
+    {
         let mut line = self.field_ended(words);
         if line.phase != 1 {
             return line.refused();
@@ -145,7 +168,9 @@ impl Request {
     }
 
     // The line is at its end.
-    pub fn ended(self, words: &mut [u16]) -> Self {
+    pub fn ended(self, words: &mut [u16]) -> Self
+        ensures { λ r. ⌜ line-of r (now (words .exit)) ≡ finished (field-end self (now (words .entry))) ⌝ }
+    {
         let line = self.field_ended(words);
         if line.phase != 2 {
             return line.refused();
