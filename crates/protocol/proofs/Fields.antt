@@ -3,7 +3,6 @@ use Prim.Native.Nat.{ℕ, _+_, _*_, _%_, _≤_, _<_}
 use mathlib.Core.List.{List}
 use mathlib.Core.Path.{_≡_, refl}
 use lib.ListN.{length, set}
-
 use borrow.Author.Tests.{eq-eqb, ne-eqb, lt-ltb, le-ltb}
 use Rattle.protocol.specs.Requests.{known, reading, keeping, refused, letter, digit, number, Line, line-of, word, field-end, barred, finished}
 use Rattle.protocol.specs.declared.request.Request.{Request}

@@ -1,11 +1,10 @@
 -- What each byte of a request line does to what is known of the line, and to the words kept (docs/FORMAT.md, The line protocol). The
 -- cases are those of the code, in its order.
-use Prim.Native.Nat.{ℕ, _+_, _*_, _%_}
-use mathlib.Core.Bool.{true, false, cond}
+use Prim.Native.Nat.{ℕ, _+_, _-_, _*_, _%_}
+use mathlib.Core.Bool.{Bool, true, false, cond, _&&_, _||_}
 use mathlib.Core.List.{List}
-use lib.Dec.{eqb, ltb}
+use lib.Dec.{eqb, ltb, leb}
 use lib.ListN.{length, set}
-
 use Rattle.protocol.specs.declared.request.Request.{Request}
 
 -- The fields that a byte may change: how far the line is, its verb, its numbers, the field being read, how many words are kept, and
@@ -137,3 +136,31 @@ barred l =
 -- The end of the line, which is behind the bar.
 unfoldable pub finished : Line → Line
 finished l = cond (eqb (l .request .phase) 2) l (line-of (refused (l .request)) (l .words))
+
+-- Some byte is read.
+abbrev pub touched : Request → Request
+touched q =
+    record {
+      phase = q .phase;
+      verb = q .verb;
+      first = q .first;
+      second = q .second;
+      numbers = q .numbers;
+      field = q .field;
+      width = q .width;
+      count = q .count;
+      any = true;
+      wrong = q .wrong;
+    }
+
+-- "Fields are parted by spaces, tabs or carriage returns".
+unfoldable pub parting : ℕ → Bool
+parting b = eqb b 9 || eqb b 13 || eqb b 32
+
+-- One byte: the end of a field, the bar, a digit, a letter, or a byte that no request has.
+unfoldable pub fed : Request → ℕ → List ℕ → Line
+fed q b ws =
+    cond (parting b) (field-end (touched q) ws)
+    (cond (eqb b 124) (barred (field-end (touched q) ws))
+    (cond (leb 48 b && ltb b 58) (line-of (digit (touched q) (b - 48)) ws)
+    (cond (leb 97 b && ltb b 123) (line-of (letter (touched q) b) ws) (line-of (refused (touched q)) ws))))

@@ -3,7 +3,17 @@
 
 ghost use mathlib.Core.Path.{_≡_};
 ghost use Rattle.protocol.specs.Requests.{
-    unread, refused, letter, digit, number, line-of, word, field-end, barred, finished
+  unread,
+  refused,
+  letter,
+  digit,
+  number,
+  line-of,
+  word,
+  field-end,
+  barred,
+  finished,
+  fed,
 };
 
 // What is known of a line so far.
@@ -50,7 +60,9 @@ impl Request {
     }
 
     // With one more byte.
-    pub fn fed(mut self, byte: u8, words: &mut [u16]) -> Self {
+    pub fn fed(mut self, byte: u8, words: &mut [u16]) -> Self
+        ensures { λ r. ⌜ line-of r (now (words .exit)) ≡ fed self byte (now (words .entry)) ⌝ }
+    {
         self.any = true;
         match byte {
             b' ' | b'\t' | b'\r' => self.field_ended(words),

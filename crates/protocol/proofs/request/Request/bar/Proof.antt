@@ -1,7 +1,6 @@
 -- `bar` meets its contract: the bar is read among the numbers alone.
 use mathlib.Core.Path.{_∙_, ap}
 use borrow.Author.Needs.{needs}
-use denote.Ref.{now}
 use Rattle.protocol.specs.Requests.{line-of}
 use Rattle.protocol.proofs.Fields.{bar-late, bar-read}
 use Rattle.protocol.proofs.request.Request.bar.Statement.{statement}

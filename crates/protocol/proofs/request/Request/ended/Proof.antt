@@ -1,7 +1,6 @@
 -- `ended` meets its contract: a line ends behind the bar alone.
 use mathlib.Core.Path.{_∙_, ap}
 use borrow.Author.Needs.{needs}
-use denote.Ref.{now}
 use Rattle.protocol.specs.Requests.{line-of}
 use Rattle.protocol.proofs.Fields.{end-early, end-read}
 use Rattle.protocol.proofs.request.Request.ended.Statement.{statement}
