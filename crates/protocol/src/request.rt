@@ -1,6 +1,5 @@
 // A request line, read byte by byte: fields of decimal digits parted by spaces, tabs or carriage returns. Words beyond the
 // 1,025th are tested and not kept: a term of so many words is refused by its length.
-
 ghost use mathlib.Core.Path.{_≡_};
 ghost use Rattle.protocol.specs.Requests.{
   unread,
