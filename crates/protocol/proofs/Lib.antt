@@ -1,4 +1,6 @@
 -- The laws of this crate that its proofs use.
+pub mod Feeding
+pub mod Fields
 pub mod Flushing
 pub mod Replying
 pub mod Requesting

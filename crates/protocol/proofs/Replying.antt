@@ -14,7 +14,7 @@ use Rattle.feguavy.specs.declared.RanNumbers.{RanNumbers}
 use Rattle.text.specs.Appending.{Appends}
 use Rattle.text.specs.Texts.{ascii, spaced}
 use Rattle.text.proofs.Appended.{both}
-use Rattle.protocol.specs.Answers.{refusal-line, typed-line, checked-line, ended-line, ran-line, Reply, Replies}
+use Rattle.protocol.specs.Answers.{refusal-line, typed-line, checked-line, ended-line, ran-line, Replies}
 
 -- A check.
 untyped-text : (a : Answer ℕ) (O : List ℕ) (n : CheckedNumbers)

@@ -4,7 +4,7 @@ use Prim.Native.Nat.{ℕ}
 use mathlib.Core.Bool.{Bool, false, cond, _&&_, _||_}
 use mathlib.Core.List.{List, [], _∷_, _++_}
 use mathlib.Core.Path.{_≡_}
-use lib.Dec.{eqb}
+use lib.Dec.{eqb, leb}
 use lib.ListN.{take, replicate}
 use Rattle.calculus.specs.Answer.{Answer, ok, refused, number}
 use Rattle.calculus.specs.Run.{end-number}
@@ -64,6 +64,10 @@ check-verb = 426953237355
 
 abbrev pub run-verb : ℕ
 run-verb = 7501166
+
+-- A run that may take 100,000 steps or more.
+abbrev pub takes-long : Request → Bool
+takes-long q = eqb (q .verb) run-verb && leb 100000 (q .first) && leb 100000 (q .second)
 
 abbrev pub part-verb : ℕ
 part-verb = 1885434484

@@ -1,3 +1,4 @@
 -- What the contracts of this crate cite.
 pub mod Answers
 pub mod Outputs
+pub mod Requests

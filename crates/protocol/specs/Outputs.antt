@@ -1,5 +1,6 @@
 -- What may become of the answers that wait to be written, whatever the device does with them.
 use Prim.Native.Nat.{ℕ, _+_, _-_, _^_, _≤_, _<_, min}
+use mathlib.Core.Bool.{Bool, true, false}
 use mathlib.Core.List.{List}
 use mathlib.Core.Path.{_≡_}
 use lib.ListN.{length, take}
@@ -29,3 +30,8 @@ pub data Flushed (o : Output) (out : List ℕ) : Output → Type 0 where
 pub data Roomy (o : Output) (out : List ℕ) : Output → Type 0 where
   room : o .filled < length out → 16384 ≤ length out - o .filled → Roomy o out o
   flushed : {r : Output} → Flushed o out r → Roomy o out r
+
+-- `Ready o long out r`: before what may take long the output is flushed.
+pub data Ready (o : Output) (long : Bool) (out : List ℕ) : Output → Type 0 where
+  at-once : long ≡ false → Ready o long out o
+  after-all : {r : Output} → long ≡ true → Flushed o out r → Ready o long out r

@@ -6,13 +6,11 @@ use term::part;
 use term::walk::span;
 use text::front;
 ghost use mathlib.Core.Path.{_≡_};
-ghost use mathlib.Core.Bool.{_&&_};
 ghost use mathlib.Core.List.{[], _∷_, _++_};
-ghost use lib.Dec.{eqb, leb};
 ghost use Rattle.calculus.specs.Outcomes.{part};
 ghost use Rattle.text.specs.Appending.{Appends};
 ghost use Rattle.text.specs.Texts.{ascii, spaced};
-ghost use Rattle.protocol.specs.Answers.{check-reply, run-reply, part-line, reply, ended-by-feed, is-request, run-verb, Replies};
+ghost use Rattle.protocol.specs.Answers.{check-reply, run-reply, part-line, reply, ended-by-feed, is-request, takes-long, Replies};
 
 // The verbs, their letters as one number.
 const CHECK: u64 = 426953237355;
@@ -87,7 +85,7 @@ fn parted(term: &[u16], number: u32, out: &mut [u8], at: usize) -> usize
 const LONG: u32 = 100000;
 
 pub fn lengthy(request: Request) -> bool
-    ensures { λ r. ⌜ r ≡ eqb (request .verb) run-verb && leb 100000 (request .first) && leb 100000 (request .second) ⌝ }
+    ensures { λ r. ⌜ r ≡ takes-long request ⌝ }
 {
     request.verb == RUN && LONG <= request.first && LONG <= request.second
 }

@@ -8,7 +8,8 @@ ghost use mathlib.Core.Path.{_≡_};
 ghost use mathlib.Core.List.{_++_};
 ghost use Rattle.text.specs.Appending.{Appends};
 ghost use Rattle.text.specs.Texts.{ascii, decimal};
-ghost use Rattle.protocol.specs.Outputs.{one-more, Flushed, Roomy};
+ghost use Rattle.protocol.specs.Answers.{takes-long};
+ghost use Rattle.protocol.specs.Outputs.{one-more, Flushed, Ready, Roomy};
 
 // Room for the longest line: a thousand words, and a path.
 const LONGEST: usize = 16384;
@@ -92,7 +93,9 @@ impl Output {
     }
 
     // Written out where the request may take long.
-    pub fn ready_for(self, request: Request, out: &[u8]) -> Self {
+    pub fn ready_for(self, request: Request, out: &[u8]) -> Self
+        ensures { λ r. ⌜ Ready self (takes-long request) (now (out .entry)) r ⌝ }
+    {
         if answer::lengthy(request) {
             return self.flushed(out);
         }

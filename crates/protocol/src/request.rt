@@ -1,5 +1,20 @@
 // A request line, read byte by byte: fields of decimal digits parted by spaces, tabs or carriage returns. Words beyond the
 // 1,025th are tested and not kept: a term of so many words is refused by its length.
+ghost use mathlib.Core.Path.{_≡_};
+ghost use Rattle.protocol.specs.Requests.{
+  unread,
+  refused,
+  letter,
+  digit,
+  number,
+  keeping,
+  line-of,
+  word,
+  field-end,
+  barred,
+  finished,
+  fed,
+};
 
 // What is known of a line so far.
 pub struct Request {
@@ -21,7 +36,9 @@ pub struct Request {
 }
 
 impl Request {
-    pub fn new() -> Self {
+    pub fn new() -> Self
+        ensures { λ r. ⌜ r ≡ unread ⌝ }
+    {
         Request {
             phase: 0,
             verb: 0,
@@ -37,17 +54,23 @@ impl Request {
     }
 
     // The same of `count` words that are read elsewhere.
-    pub fn with_count(mut self, count: usize) -> Self {
+    pub fn with_count(mut self, count: usize) -> Self
+        ensures { λ r. ⌜ r ≡ keeping self count ⌝ }
+    {
         self.count = count;
         self
     }
 
-    pub fn begun(self) -> bool {
+    pub fn begun(self) -> bool
+        ensures { λ r. ⌜ r ≡ self .any ⌝ }
+    {
         self.any
     }
 
     // With one more byte.
-    pub fn fed(mut self, byte: u8, words: &mut [u16]) -> Self {
+    pub fn fed(mut self, byte: u8, words: &mut [u16]) -> Self
+        ensures { λ r. ⌜ line-of r (now (words .exit)) ≡ fed self byte (now (words .entry)) ⌝ }
+    {
         self.any = true;
         match byte {
             b' ' | b'\t' | b'\r' => self.field_ended(words),
@@ -59,13 +82,17 @@ impl Request {
     }
 
     // The line is no request.
-    fn refused(mut self) -> Self {
+    fn refused(mut self) -> Self
+        ensures { λ r. ⌜ r ≡ refused self ⌝ }
+    {
         self.wrong = true;
         self
     }
 
     // One letter of the verb, which has at most five: the four before it are a number of 32 bits.
-    fn letter(mut self, byte: u8) -> Self {
+    fn letter(mut self, byte: u8) -> Self
+        ensures { λ r. ⌜ r ≡ letter self byte ⌝ }
+    {
         if self.phase != 0 {
             return self.refused();
         }
@@ -78,7 +105,9 @@ impl Request {
     }
 
     // One digit of a number or a word. A field of more than 32 bits is too large for either.
-    fn digit(mut self, value: u8) -> Self {
+    fn digit(mut self, value: u8) -> Self
+        ensures { λ r. ⌜ r ≡ digit self value ⌝ }
+    {
         if self.phase == 0 {
             return self.refused();
         }
@@ -91,7 +120,9 @@ impl Request {
     }
 
     // The field is at its end: the verb, a number or a word.
-    fn field_ended(mut self, words: &mut [u16]) -> Self {
+    fn field_ended(mut self, words: &mut [u16]) -> Self
+        ensures { λ r. ⌜ line-of r (now (words .exit)) ≡ field-end self (now (words .entry)) ⌝ }
+    {
         if self.width == 0 {
             return self;
         }
@@ -110,7 +141,9 @@ impl Request {
     }
 
     // A number of 32 bits, of which a request has two at most.
-    fn number(mut self, value: u64) -> Self {
+    fn number(mut self, value: u64) -> Self
+        ensures { λ r. ⌜ r ≡ number self value ⌝ }
+    {
         if 4294967295 < value {
             return self.refused();
         }
@@ -128,7 +161,9 @@ impl Request {
     }
 
     // A word of 16 bits, kept where there is room.
-    fn word(mut self, value: u64, words: &mut [u16]) -> Self {
+    fn word(mut self, value: u64, words: &mut [u16]) -> Self
+        ensures { λ r. ⌜ line-of r (now (words .exit)) ≡ word self value (now (words .entry)) ⌝ }
+    {
         if 65535 < value {
             return self.refused();
         }
@@ -141,7 +176,9 @@ impl Request {
     }
 
     // The bar between the numbers and the words.
-    fn bar(self, words: &mut [u16]) -> Self {
+    fn bar(self, words: &mut [u16]) -> Self
+        ensures { λ r. ⌜ line-of r (now (words .exit)) ≡ barred (field-end self (now (words .entry))) ⌝ }
+    {
         let mut line = self.field_ended(words);
         if line.phase != 1 {
             return line.refused();
@@ -151,7 +188,9 @@ impl Request {
     }
 
     // The line is at its end.
-    pub fn ended(self, words: &mut [u16]) -> Self {
+    pub fn ended(self, words: &mut [u16]) -> Self
+        ensures { λ r. ⌜ line-of r (now (words .exit)) ≡ finished (field-end self (now (words .entry))) ⌝ }
+    {
         let line = self.field_ended(words);
         if line.phase != 2 {
             return line.refused();

@@ -3,7 +3,9 @@
 use libc::STDERR_FILENO;
 use libc::types::timespec;
 ghost use Prim.Native.Nat.{_<_, _≤_};
+ghost use mathlib.Core.Bool.{_||_};
 ghost use mathlib.Core.Path.{_≡_};
+ghost use lib.Dec.{eqb};
 ghost use lib.ListN.{length};
 ghost use Rattle.io.specs.Counts.{Counts};
 ghost use Rattle.streams.specs.Feeds.{feeds};
@@ -60,7 +62,9 @@ fn failure(answer: isize) -> u32
 }
 
 // Whether the call is to be made again. Where it would have blocked, that is after a pause.
-fn again(error: u32) -> bool {
+fn again(error: u32) -> bool
+    ensures { λ r. ⌜ r ≡ eqb error 11 || eqb error 4 ⌝ }
+{
     if error == BLOCKED {
         pause();
         return true;

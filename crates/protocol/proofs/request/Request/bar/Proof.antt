@@ -1,0 +1,24 @@
+-- `bar` meets its contract: the bar is read among the numbers alone.
+use mathlib.Core.Path.{_∙_, ap}
+use borrow.Author.Needs.{needs}
+use Rattle.protocol.specs.Requests.{line-of}
+use Rattle.protocol.proofs.Fields.{bar-late, bar-read}
+use Rattle.protocol.proofs.request.Request.bar.Statement.{statement}
+use Rattle.protocol.proofs.request.Request.bar.Tie as tie
+
+returns : tie.Need-returns
+returns c =
+    let call = c .before .before .before .before .before in
+    ap (λ q. line-of q (call .field-ended .last .1 .0)) (c .refused .ensures)
+    ∙ bar-late (call .field-ended .result) (call .field-ended .last .1 .0) (call .field-ended .ensures) (c .before .if1 .taken)
+
+returns-2 : tie.Need-returns-2
+returns-2 c =
+    let call = c .before .before .before .before in
+    bar-read (call .field-ended .result) (call .field-ended .last .1 .0) (call .field-ended .ensures) (c .if1 .left)
+
+pub bar-spec : {M : Type 1} → statement M
+bar-spec =
+    tie.close
+    (tie.spec
+    (λ c κs. search needs) (λ c κs. search needs) (λ c. search needs) returns (λ c. search needs) returns-2)
