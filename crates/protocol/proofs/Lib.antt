@@ -1,4 +1,5 @@
 -- The laws of this crate that its proofs use.
+pub mod Examples
 pub mod Feeding
 pub mod Fields
 pub mod Flushing
