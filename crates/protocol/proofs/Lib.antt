@@ -1,4 +1,4 @@
--- The laws of this crate that its proofs use.
+-- The laws of this crate that its proofs use, and its examples.
 pub mod Examples
 pub mod Feeding
 pub mod Fields
