@@ -1,4 +1,5 @@
--- The laws of this crate that its proofs use.
+-- The laws of this crate that its proofs use, and its examples.
+pub mod Examples
 pub mod Feeding
 pub mod Fields
 pub mod Flushing

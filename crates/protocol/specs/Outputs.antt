@@ -24,7 +24,11 @@ emptied o written error = record { filled = 0; answered = o .answered; written =
 pub data Flushed (o : Output) (out : List ℕ) : Output → Type 0 where
   stays : (o .error ≡ 0 → ⊥) → Flushed o out o
   all : o .error ≡ 0 → Flushed o out (emptied o (o .answered) 0)
-  some : (n error : ℕ) → o .error ≡ 0 → (error ≡ 0 → ⊥) → n ≤ o .filled → Flushed o out (emptied o (sum (o .written) (feeds (take n out))) error)
+  some : (n error : ℕ)
+      → o .error ≡ 0
+      → (error ≡ 0 → ⊥)
+      → n ≤ o .filled
+      → Flushed o out (emptied o (sum (o .written) (feeds (take n out))) error)
 
 -- `Roomy o out r`: there is room for the longest line, or the output is flushed.
 pub data Roomy (o : Output) (out : List ℕ) : Output → Type 0 where
