@@ -1,10 +1,12 @@
-//! The examples of the documents: a line of a fenced block that begins with `> ` is a request, and the next line its answer.
+//! The examples of the documents: a line of a fenced block that begins with `> ` is a request, and the next line its answer; an
+//! indented line that begins with `$ host/target/release/feguavy` is a command, and the indented lines behind it what it prints.
 
 mod lines;
 
 use lines::Slices;
 use std::fs::{read_dir, read_to_string};
 use std::path::{Path, PathBuf};
+use std::process::Command;
 
 /// The requests of a document with their answers.
 fn examples(text: &str) -> Vec<(&str, &str)> {
@@ -19,15 +21,49 @@ fn examples(text: &str) -> Vec<(&str, &str)> {
     found
 }
 
-#[test]
-fn answered_as_printed() {
+/// The documents of the repository.
+fn documents() -> Vec<PathBuf> {
     let root = Path::new(env!("CARGO_MANIFEST_DIR")).join("..");
     let mut documents: Vec<PathBuf> = read_dir(root.join("docs")).unwrap().map(|entry| entry.unwrap().path()).collect();
     documents.push(root.join("README.md"));
+    documents.retain(|path| path.extension().is_some_and(|ending| ending == "md"));
+    documents
+}
+
+/// The arguments of a command line: words, of which some stand in quotes.
+fn arguments(line: &str) -> Vec<String> {
+    let quoted = |(i, text): (usize, &str)| match i % 2 {
+        0 => text.split_whitespace().map(str::to_string).collect(),
+        _ => vec![text.to_string()],
+    };
+    line.split('"').enumerate().flat_map(quoted).collect()
+}
+
+#[test]
+fn commands_print_what_stands_there() {
+    let mut printed = 0;
+    for document in documents() {
+        let text = read_to_string(&document).unwrap();
+        let lines: Vec<&str> = text.lines().collect();
+        for (i, line) in lines.iter().enumerate() {
+            let Some(words) = line.strip_prefix("    $ host/target/release/feguavy") else { continue };
+            let behind = lines[i + 1..].iter().take_while(|line| line.is_empty() || line.starts_with("    "));
+            let expected: Vec<&str> = behind.map(|line| line.strip_prefix("    ").unwrap_or("")).collect();
+            let output = Command::new(env!("CARGO_BIN_EXE_feguavy")).args(arguments(words)).output().unwrap();
+            let said = String::from_utf8(output.stdout).unwrap();
+            assert_eq!(said.trim_end(), expected.join("\n").trim_end(), "{}: {line}", document.display());
+            printed += 1;
+        }
+    }
+    assert!(printed >= 1);
+}
+
+#[test]
+fn answered_as_printed() {
     let mut slices = Slices::new();
     let mut answered = 0;
-    for document in documents.iter().filter(|path| path.extension().is_some_and(|ending| ending == "md")) {
-        for (request, printed) in examples(&read_to_string(document).unwrap()) {
+    for document in documents() {
+        for (request, printed) in examples(&read_to_string(&document).unwrap()) {
             assert_eq!(slices.answer(request).as_deref(), Some(printed), "{}: {request}", document.display());
             answered += 1;
         }

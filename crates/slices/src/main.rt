@@ -4,6 +4,7 @@ use feguavy::CheckedNumbers;
 use feguavy::RanNumbers;
 use feguavy::feguavy_check;
 use feguavy::feguavy_run;
+use libc::STDOUT_FILENO;
 use text::front;
 ghost use Prim.Native.Nat.{_≤_};
 
@@ -92,6 +93,14 @@ fn checked(term: &[u16], limit: u32, work: &mut [u16], result: &mut [u16]) -> Ch
     feguavy_check(term, limit, work, result)
 }
 
+// Writes a line out. Where that fails, standard error says so, and the stored output differs.
+fn print(line: &[u8]) {
+    let put = streams::write_all(STDOUT_FILENO, line);
+    if put.error != 0 {
+        streams::say(b"slices: standard output", put.error);
+    }
+}
+
 // `check LIMIT | WORDS -> ANSWER PLACE LENGTH`.
 fn put_checked(term: &[u16], limit: u32, r: CheckedNumbers, out: &mut [u8]) -> usize {
     let named = text::bytes(b"check", out, 0);
@@ -106,7 +115,7 @@ fn try_check(term: &[u16], limit: u32, work: &mut [u16], result: &mut [u16]) {
     let r = checked(term, limit, work, result);
     let answered = put_checked(term, limit, r, &mut out);
     let all = put_slices(work, result, &mut out, answered);
-    text::print(&out, all);
+    print(text::filled(&out, all));
 }
 
 // A run on slices that hold garbage.
@@ -140,7 +149,7 @@ fn try_run(term: &[u16], budget: u32, allowance: u32, work: &mut [u16], result: 
     let r = ran(term, budget, allowance, work, result);
     let answered = put_ran(term, budget, allowance, r, &mut out);
     let all = put_slices(work, result, &mut out, answered);
-    text::print(&out, all);
+    print(text::filled(&out, all));
 }
 
 // A check on the first `room` and `size` words, where there are so many.

@@ -1,6 +1,5 @@
 // Text for the programs: bytes, numbers and lists of words appended to a buffer. Each function answers the place behind what it
 // wrote, and drops what does not fit: the callers keep room for their longest line.
-use libc::STDOUT_FILENO;
 ghost use mathlib.Core.Path.{_≡_};
 ghost use mathlib.Core.List.{[], _∷_, _++_};
 ghost use lib.ListN.{take};
@@ -27,11 +26,6 @@ pub fn filled(buffer: &[u8], count: usize) -> &[u8]
     } else {
         buffer
     }
-}
-
-// Writes the first `count` bytes, or all where there are fewer, to standard output.
-pub fn print(out: &[u8], count: usize) {
-    io::write_all(STDOUT_FILENO, filled(out, count));
 }
 
 // Appends one byte.
