@@ -45,17 +45,27 @@ fn next_breaks(pieces: &[Piece]) -> Vec<usize> {
     next
 }
 
+impl Piece {
+    /// On one line.
+    fn text(&self) -> &str {
+        match self {
+            Piece::Text(text) => text,
+            Piece::Break(_) => " ",
+            Piece::Open { .. } | Piece::Close => "",
+        }
+    }
+}
+
 pub(crate) fn lay_out(pieces: &[Piece], width: usize) -> String {
+    let line: String = pieces.iter().map(Piece::text).collect();
+    if line.chars().count() <= width {
+        return line;
+    }
     let next = next_breaks(pieces);
     // where each piece would begin if all stood on one line
     let mut starts = vec![0];
     for piece in pieces {
-        let long = match piece {
-            Piece::Text(text) => text.chars().count(),
-            Piece::Break(_) => 1,
-            _ => 0,
-        };
-        starts.push(starts[starts.len() - 1] + long);
+        starts.push(starts[starts.len() - 1] + piece.text().chars().count());
     }
     let (mut text, mut column, mut line) = (String::new(), 0, 0);
     // the group's column, its mode, and the line of its last break

@@ -1,6 +1,7 @@
 //! Names for the variables of a term.
 
 use crate::tree::{Bound, Tree};
+use std::borrow::Cow;
 
 /// The names of the free variables, the innermost first, and how many names are taken. A name is a number, and none is the name of a
 /// variable that nothing uses.
@@ -11,12 +12,12 @@ pub(crate) struct Scope {
 }
 
 /// The letters of a name's number.
-pub(crate) fn spell(name: usize) -> String {
-    const LETTERS: &[u8; 26] = b"xyzabcdefghijklmnopqrstuvw";
-    let letter = LETTERS[name % 26] as char;
+pub(crate) fn spell(name: usize) -> Cow<'static, str> {
+    const LETTERS: &str = "xyzabcdefghijklmnopqrstuvw";
+    let letter = &LETTERS[name % 26..name % 26 + 1];
     match name / 26 {
-        0 => letter.to_string(),
-        round => format!("{letter}{round}"),
+        0 => letter.into(),
+        round => format!("{letter}{round}").into(),
     }
 }
 
@@ -63,10 +64,10 @@ impl Names {
     }
 
     /// The text of a free variable.
-    pub fn of_free(&self, index: usize) -> String {
+    pub fn of_free(&self, index: usize) -> Cow<'static, str> {
         match self.outside.free.get(index) {
             Some(Some(name)) => spell(*name),
-            _ => format!("#{index}"),
+            _ => format!("#{index}").into(),
         }
     }
 }

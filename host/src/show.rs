@@ -134,65 +134,66 @@ fn text(text: impl Into<Cow<'static, str>>) -> Item {
     Item::Piece(Piece::Text(text.into()))
 }
 
+fn gap(indent: usize) -> Item {
+    Item::Piece(Piece::Break(indent))
+}
+
+/// Whether a node's group is to fill lines: a node without parts has no group, nor one that goes on in its parent's.
+fn group(word: u16, position: Position) -> Option<bool> {
+    let (own, fill) = match word {
+        APPLICATION => (position != Position::Function, true),
+        DOWN | UP => (position != Position::CastBody, true),
+        PRODUCT => (position != Position::Codomain, true),
+        ABSTRACTION | RECURSION => (position != Position::Body, false),
+        _ => (false, false),
+    };
+    own.then_some(fill)
+}
+
 impl Picture<'_> {
     pub fn text(&self) -> String {
-        let mut pieces = Vec::new();
+        let (mut pieces, mut inner) = (Vec::new(), Vec::new());
         let mut work = vec![Item::Node(0, Position::Free)];
         while let Some(item) = work.pop() {
             match item {
                 Item::Piece(piece) => pieces.push(piece),
-                Item::Node(place, position) => work.extend(self.node(place, position).into_iter().rev()),
+                Item::Node(place, position) => {
+                    self.node(place, position, &mut inner);
+                    work.extend(inner.drain(..).rev());
+                }
             }
         }
         lay_out(&pieces, self.style.width)
     }
 
     /// The pieces of a node, and its parts.
-    fn node(&self, place: usize, position: Position) -> Vec<Item> {
+    fn node(&self, place: usize, position: Position, items: &mut Vec<Item>) {
         let sign = |sign| text(self.style.sign(sign));
         if self.is_left_out(place) {
-            return vec![sign(Sign::LeftOut)];
+            return items.push(sign(Sign::LeftOut));
         }
         let word = self.tree.word(place);
-        let (inner, fill) = match word {
-            STAR => (vec![sign(Sign::Star)], None),
-            DOWN => (vec![sign(Sign::Down), Item::Piece(Piece::Break(2)), self.first(place, Position::CastBody)], Some(true)),
-            UP => {
-                let annotation = [sign(Sign::Up), self.first(place, Position::Free), text("]")];
-                let body = [Item::Piece(Piece::Break(2)), self.second(place, Position::CastBody)];
-                (annotation.into_iter().chain(body).collect(), Some(true))
-            }
-            APPLICATION => {
-                let function = self.first(place, Position::Function);
-                (vec![function, Item::Piece(Piece::Break(2)), self.second(place, Position::Argument)], Some(true))
-            }
+        let marked = self.mark == Some(place);
+        let in_parentheses = self.in_parentheses(place, word, position);
+        let group = group(word, position);
+        items.extend(marked.then(|| sign(Sign::MarkOpens)));
+        items.extend(in_parentheses.then(|| text("(")));
+        items.extend(group.map(|fill| Item::Piece(Piece::Open { fill })));
+        let (first, second) = (|position| self.first(place, position), |position| self.second(place, position));
+        match word {
+            STAR => items.push(sign(Sign::Star)),
+            DOWN => items.extend([sign(Sign::Down), gap(2), first(Position::CastBody)]),
+            UP => items.extend([sign(Sign::Up), first(Position::Free), text("]"), gap(2), second(Position::CastBody)]),
+            APPLICATION => items.extend([first(Position::Function), gap(2), second(Position::Argument)]),
             PRODUCT if self.is_arrow(place) => {
-                let domain = self.first(place, Position::Domain);
-                (vec![domain, sign(Sign::Arrow), Item::Piece(Piece::Break(0)), self.second(place, Position::Codomain)], Some(true))
+                items.extend([first(Position::Domain), sign(Sign::Arrow), gap(0), second(Position::Codomain)])
             }
-            ABSTRACTION | PRODUCT | RECURSION => (self.binder(place, word), Some(word == PRODUCT)),
-            _ => (vec![text(self.variable(place))], None),
-        };
-        let mut items = inner;
-        let goes_on = match word {
-            APPLICATION => position == Position::Function,
-            DOWN | UP => position == Position::CastBody,
-            PRODUCT => position == Position::Codomain,
-            _ => position == Position::Body,
-        };
-        if let (Some(fill), false) = (fill, goes_on) {
-            items.insert(0, Item::Piece(Piece::Open { fill }));
-            items.push(Item::Piece(Piece::Close));
+            ABSTRACTION | PRODUCT | RECURSION => items.extend(self.binder(place, word)),
+            _ => items.push(text(self.variable(place))),
         }
-        if self.in_parentheses(place, word, position) {
-            items.insert(0, text("("));
-            items.push(text(")"));
-        }
-        if self.mark == Some(place) {
-            items.insert(0, sign(Sign::MarkOpens));
-            items.push(sign(Sign::MarkCloses));
-        }
-        items
+        items.extend(group.map(|_| Item::Piece(Piece::Close)));
+        items.extend(in_parentheses.then(|| text(")")));
+        items.extend(marked.then(|| sign(Sign::MarkCloses)));
     }
 
     fn first(&self, place: usize, position: Position) -> Item {
@@ -203,29 +204,30 @@ impl Picture<'_> {
         Item::Node(self.tree.second(place), position)
     }
 
-    fn binder(&self, place: usize, word: u16) -> Vec<Item> {
+    fn binder(&self, place: usize, word: u16) -> [Item; 7] {
         let sign = match word {
             ABSTRACTION => Sign::Abstraction,
             PRODUCT => Sign::Product,
             _ => Sign::Recursion,
         };
-        let name = self.names.name(place).map_or_else(|| "_".to_string(), spell);
         // binders one under another keep to one column, and what a function or recursion does stands to the right of it
         let (position, indent) = match self.tree.word(self.tree.second(place)) {
             _ if word == PRODUCT => (Position::Codomain, 0),
             ABSTRACTION | RECURSION => (Position::Body, 0),
             _ => (Position::Body, 2),
         };
-        vec![
-            text(format!("{}{name} : ", self.style.sign(sign))),
+        [
+            text(self.style.sign(sign)),
+            text(self.names.name(place).map_or("_".into(), spell)),
+            text(" : "),
             self.first(place, Position::Annotation),
             text("."),
-            Item::Piece(Piece::Break(indent)),
+            gap(indent),
             self.second(place, position),
         ]
     }
 
-    fn variable(&self, place: usize) -> String {
+    fn variable(&self, place: usize) -> Cow<'static, str> {
         match self.tree.bound(place) {
             Some(Bound::By(binder)) => spell(self.names.name(binder).expect("a used variable has a name")),
             Some(Bound::Free(index)) => self.names.of_free(index),

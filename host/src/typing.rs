@@ -248,7 +248,8 @@ impl<'a> Asked<'a> {
             let annotation = tree.first(binder);
             let words = tree.slice(annotation).to_vec();
             let text = self.text(annotation, &words, None);
-            variables.push(Variable { name: names.name(binder).map_or("_".to_string(), spell), binder, words, text });
+            let name = names.name(binder).map_or("_".into(), spell).into_owned();
+            variables.push(Variable { name, binder, words, text });
         }
         variables.reverse();
         self.explanation.variables = variables;

@@ -1,5 +1,7 @@
 //! Terms as text: by example, over lines, at 1,024 levels, and read back: the text of a term says which term it is.
 
+mod shown;
+
 use feguavy::{bytes_from_words, show, words_from_bytes, Buffers, Reason, Refusal, Style};
 
 fn words(text: &str) -> Vec<u16> {
@@ -88,126 +90,10 @@ fn as_bytes() {
     assert_eq!(words_from_bytes(&[0x34, 0x12, 0]), None);
 }
 
-/// A reader of the text, for these tests alone.
-struct Reader<'a> {
-    tokens: Vec<&'a str>,
-    at: usize,
-    scope: Vec<&'a str>,
-}
-
-impl<'a> Reader<'a> {
-    fn of(text: &'a str) -> Reader<'a> {
-        let mut tokens = Vec::new();
-        for piece in text.split_whitespace() {
-            let mut rest = piece;
-            while !rest.is_empty() {
-                let long = match rest.find(['(', ')', '[', ']', '.']) {
-                    Some(0) => 1,
-                    Some(at) => at,
-                    None => rest.len(),
-                };
-                tokens.push(&rest[..long]);
-                rest = &rest[long..];
-            }
-        }
-        Reader { tokens, at: 0, scope: Vec::new() }
-    }
-
-    fn next(&mut self) -> &'a str {
-        self.at += 1;
-        self.tokens[self.at - 1]
-    }
-
-    fn peek(&self) -> &'a str {
-        self.tokens.get(self.at).copied().unwrap_or("")
-    }
-
-    fn expect(&mut self, token: &str) {
-        assert_eq!(self.next(), token);
-    }
-
-    fn term(&mut self) -> Vec<u16> {
-        let tag = match self.peek() {
-            "λ" | "\\" => 4,
-            "Π" | "Pi" => 5,
-            "μ" | "mu" => 6,
-            _ => {
-                let left = self.applied();
-                if !matches!(self.peek(), "→" | "->") {
-                    return left;
-                }
-                self.next();
-                return self.under("_", 5, left);
-            }
-        };
-        self.next();
-        let name = self.next();
-        self.expect(":");
-        let annotation = self.term();
-        self.expect(".");
-        self.under(name, tag, annotation)
-    }
-
-    fn under(&mut self, name: &'a str, tag: u16, annotation: Vec<u16>) -> Vec<u16> {
-        self.scope.push(name);
-        let body = self.term();
-        self.scope.pop();
-        [&[tag][..], &annotation, &body].concat()
-    }
-
-    fn applied(&mut self) -> Vec<u16> {
-        if self.peek().starts_with("cast") {
-            return self.cast();
-        }
-        let mut function = self.atom();
-        while !matches!(self.peek(), "" | ")" | "]" | "." | "→" | "->") {
-            function = [&[2][..], &function, &self.atom()].concat();
-        }
-        function
-    }
-
-    fn cast(&mut self) -> Vec<u16> {
-        match self.peek() {
-            "cast↓" | "castdown" => {
-                self.next();
-                [&[1][..], &self.cast()].concat()
-            }
-            "cast↑" | "castup" => {
-                self.next();
-                self.expect("[");
-                let annotation = self.term();
-                self.expect("]");
-                [&[3][..], &annotation, &self.cast()].concat()
-            }
-            _ => self.atom(),
-        }
-    }
-
-    fn atom(&mut self) -> Vec<u16> {
-        match self.next() {
-            "(" => {
-                let inner = self.term();
-                self.expect(")");
-                inner
-            }
-            "⋆" | "*" => vec![0],
-            name => match self.scope.iter().rev().position(|other| *other == name) {
-                Some(index) => vec![16 + index as u16],
-                None => vec![16 + name.strip_prefix('#').expect(name).parse::<u16>().unwrap() + self.scope.len() as u16],
-            },
-        }
-    }
-}
-
 /// On a stack for recursion as deep as the term.
 fn read_back(text: &str) -> Vec<u16> {
     std::thread::scope(|scope| {
-        let reader = || {
-            let mut reader = Reader::of(text);
-            let term = reader.term();
-            assert_eq!(reader.at, reader.tokens.len(), "{text}");
-            term
-        };
+        let reader = || shown::words(text, Vec::new());
         std::thread::Builder::new().stack_size(64 << 20).spawn_scoped(scope, reader).unwrap().join().unwrap()
     })
 }

@@ -2,14 +2,17 @@
 //! 16 are explained; each fact is compared with what the reference finds by its second reading of the rules, and its text read back.
 //! Prints how many were explained in full, by reason, and ends with status 1 at the first fact that differs, or below 99.9 %.
 
+#[path = "../../../host/tests/shown/mod.rs"]
+mod shown;
+
 use feguavy::{explain, Buffers, Explanation, Reason, Refusal};
 use reference::gen::Gen;
 use reference::naive::{build, check, is_value, list, shift, size, step, type_of, Rules, R, T};
 use std::rc::Rc;
 
-/// The node at a place, and its context, the outermost annotation first.
-fn node_at(whole: &R, place: usize) -> (R, Vec<R>) {
-    let (mut node, mut at, mut context) = (whole.clone(), 0, Vec::new());
+/// The node at a place, and the binders around it, each by its place and its annotation, the outermost first.
+fn walk(whole: &R, place: usize) -> (R, Vec<(usize, R)>) {
+    let (mut node, mut at, mut around) = (whole.clone(), 0, Vec::new());
     while at < place {
         let (first, second, binds) = match &*node {
             T::Down(a) => (a.clone(), None, false),
@@ -22,12 +25,18 @@ fn node_at(whole: &R, place: usize) -> (R, Vec<R>) {
             (node, at) = (first, at + 1);
         } else {
             if binds {
-                context.push(first);
+                around.push((at, first));
             }
             (node, at) = (second.expect("a place is in the term"), behind);
         }
     }
-    (node, context)
+    (node, around)
+}
+
+/// The node at a place, and its context, the outermost annotation first.
+fn node_at(whole: &R, place: usize) -> (R, Vec<R>) {
+    let (node, around) = walk(whole, place);
+    (node, around.into_iter().map(|(_, annotation)| annotation).collect())
 }
 
 fn typed(context: &[R], node: &R) -> Vec<u16> {
@@ -78,131 +87,6 @@ fn facts(whole: &R, refusal: Refusal, limit: usize) -> Vec<(&'static str, Vec<u1
     }
 }
 
-/// The places of the binders around a place, the outermost first.
-fn binders(whole: &R, place: usize) -> Vec<usize> {
-    let (mut node, mut at, mut found) = (whole.clone(), 0, Vec::new());
-    while at < place {
-        let (first, second, binds) = match &*node {
-            T::Down(a) => (a.clone(), a.clone(), false),
-            T::App(a, b) | T::Up(a, b) => (a.clone(), b.clone(), false),
-            T::Lam(a, b) | T::Pi(a, b) | T::Mu(a, b) => (a.clone(), b.clone(), true),
-            _ => unreachable!("a place is in the term"),
-        };
-        let behind = at + 1 + size(&first);
-        if place < behind {
-            (node, at) = (first, at + 1);
-        } else {
-            if binds {
-                found.push(at);
-            }
-            (node, at) = (second, behind);
-        }
-    }
-    found
-}
-
-/// A reader of the text of terms.
-struct Reader<'a> {
-    tokens: Vec<&'a str>,
-    at: usize,
-    scope: Vec<&'a str>,
-}
-
-impl<'a> Reader<'a> {
-    /// The words of a text with names for its free variables, the outermost first.
-    fn words(text: &'a str, scope: Vec<&'a str>) -> Vec<u16> {
-        let mut reader = Reader { tokens: Vec::new(), at: 0, scope };
-        for mut rest in text.split_whitespace() {
-            while !rest.is_empty() {
-                let long = match rest.find(['(', ')', '[', ']', '.']) {
-                    Some(0) => 1,
-                    Some(at) => at,
-                    None => rest.len(),
-                };
-                reader.tokens.push(&rest[..long]);
-                rest = &rest[long..];
-            }
-        }
-        let words = reader.term();
-        assert_eq!(reader.at, reader.tokens.len(), "{text}");
-        words
-    }
-
-    fn next(&mut self) -> &'a str {
-        self.at += 1;
-        self.tokens[self.at - 1]
-    }
-
-    fn peek(&self) -> &'a str {
-        self.tokens.get(self.at).copied().unwrap_or("")
-    }
-
-    fn term(&mut self) -> Vec<u16> {
-        let (tag, name, annotation) = match ["λ", "Π", "μ"].iter().position(|sign| *sign == self.peek()) {
-            Some(binder) => {
-                self.next();
-                let name = self.next();
-                assert_eq!(self.next(), ":");
-                let annotation = self.term();
-                assert_eq!(self.next(), ".");
-                (4 + binder as u16, name, annotation)
-            }
-            None => {
-                let left = self.applied();
-                if self.peek() != "→" {
-                    return left;
-                }
-                self.next();
-                (5, "_", left)
-            }
-        };
-        self.scope.push(name);
-        let body = self.term();
-        self.scope.pop();
-        [&[tag][..], &annotation, &body].concat()
-    }
-
-    fn applied(&mut self) -> Vec<u16> {
-        if self.peek().starts_with("cast") {
-            return self.cast();
-        }
-        let mut function = self.atom();
-        while !matches!(self.peek(), "" | ")" | "]" | "." | "→") {
-            function = [&[2][..], &function, &self.atom()].concat();
-        }
-        function
-    }
-
-    fn cast(&mut self) -> Vec<u16> {
-        match self.peek() {
-            "cast↓" => {
-                self.next();
-                [&[1][..], &self.cast()].concat()
-            }
-            "cast↑" => {
-                self.next();
-                assert_eq!(self.next(), "[");
-                let annotation = self.term();
-                assert_eq!(self.next(), "]");
-                [&[3][..], &annotation, &self.cast()].concat()
-            }
-            _ => self.atom(),
-        }
-    }
-
-    fn atom(&mut self) -> Vec<u16> {
-        match self.next() {
-            "(" => {
-                let inner = self.term();
-                assert_eq!(self.next(), ")");
-                inner
-            }
-            "⋆" => vec![0],
-            name => vec![16 + self.scope.iter().rev().position(|other| *other == name).expect(name) as u16],
-        }
-    }
-}
-
 /// Every text that is not cut short says the words that it stands for. Answers how many were read.
 fn texts_say_the_words(term: &[u16], whole: &R, explanation: &Explanation) -> usize {
     let reads = |place: usize, text: &str, words: &[u16]| {
@@ -211,9 +95,10 @@ fn texts_say_the_words(term: &[u16], whole: &R, explanation: &Explanation) -> us
         }
         let name =
             |binder: &usize| explanation.variables.iter().find(|variable| variable.binder == *binder).map_or("_", |v| &v.name[..]);
-        let around = binders(whole, place);
+        let (_, around) = walk(whole, place);
         let plain = text.replace(['⟦', '⟧'], "");
-        assert_eq!(Reader::words(&plain, around.iter().map(name).collect()), words, "{text} of {term:?}");
+        let scope = around.iter().map(|(binder, _)| name(binder)).collect();
+        assert_eq!(shown::words(&plain, scope), words, "{text} of {term:?}");
         1
     };
     let place = explanation.refusal.place;

@@ -1,105 +1,154 @@
 //! The answer to one input.
 
-use crate::input::{Held, Input};
+use crate::input::{Held, Input, Room};
 use crate::json::{string, Object};
 use crate::options::{Command, Options};
-use crate::{ACCEPTED, FAILED, REFUSED};
+use crate::{complain, ACCEPTED, FAILED, REFUSED};
 use feguavy::{Buffers, Explanation, Fact, Reason, Refusal, Style, Variable};
+use std::fmt::{Arguments, Write as _};
+use std::io::{self, Write};
 
-/// What is written for an input.
+/// What is written for some inputs, one after another.
 #[derive(Default)]
-pub struct Answer {
+pub struct Answers {
     /// For standard output.
     pub text: String,
-    /// For standard error.
-    pub complaint: Option<String>,
+    /// For standard error, each with how much of the text comes before it.
+    complaints: Vec<(usize, String)>,
     pub status: u8,
+    /// How many inputs are answered.
+    pub count: usize,
+}
+
+impl Answers {
+    pub fn complain(&self) -> bool {
+        !self.complaints.is_empty()
+    }
+
+    pub fn write(&self, output: &mut impl Write) -> io::Result<()> {
+        let mut from = 0;
+        for (at, complaint) in &self.complaints {
+            output.write_all(self.text[from..*at].as_bytes())?;
+            // in the order of the inputs where both go to one place
+            output.flush()?;
+            complain(complaint);
+            from = *at;
+        }
+        output.write_all(self.text[from..].as_bytes())
+    }
 }
 
 /// What a thread needs to answer.
 pub struct Desk<'a> {
-    options: &'a Options,
-    /// On one line, except where a term is what is asked for.
-    style: Style,
+    pub form: Form<'a>,
     buffers: Buffers,
+    room: Room,
 }
 
 impl<'a> Desk<'a> {
     pub fn new(options: &'a Options) -> Desk<'a> {
-        let several_lines = !options.json && matches!(options.command, Command::Show | Command::Explain);
-        let style = if several_lines { options.style } else { options.style.on_one_line() };
-        Desk { options, style, buffers: Buffers::for_limit(options.limit) }
+        Desk { form: Form::of(options), buffers: Buffers::for_limit(options.limit), room: Room::default() }
     }
 
-    pub fn answer(&mut self, input: &Input) -> Answer {
-        let term = match self.read(input) {
-            Ok(term) => term,
-            Err(answer) => return answer,
-        };
-        match self.options.command {
-            Command::Check => match self.buffers.type_of(&term) {
-                Ok(found) => typed(self.options, self.style, input, found),
-                Err(refusal) => self.refused(input, refusal),
+    pub fn answer(&mut self, input: &Input, answers: &mut Answers) {
+        answers.count += 1;
+        let Desk { form, buffers, room } = self;
+        let Some(term) = form.read(input, room, answers) else { return };
+        match form.options.command {
+            Command::Check => match buffers.type_of(term) {
+                Ok(found) => form.typed(input, found, answers),
+                Err(refusal) => form.refused(input, refusal, answers),
             },
-            Command::Explain => match self.buffers.type_of(&term) {
-                Ok(found) => typed(self.options, self.style, input, found),
-                Err(refusal) => self.explained(input, &self.style.explain(&term, refusal, self.options.limit)),
+            Command::Explain => match buffers.type_of(term) {
+                Ok(found) => form.typed(input, found, answers),
+                Err(refusal) => form.explained(input, &form.style.explain(term, refusal, form.options.limit), answers),
             },
             Command::Run => {
-                let (ran, state) = self.buffers.run(&term, self.options.budget, u32::MAX);
+                let (ran, state) = buffers.run(term, form.options.budget, u32::MAX);
                 match ran.answer {
                     Ok(ended) => {
-                        let text = text(self.style, state);
+                        let text = form.text(state);
                         let json = || {
                             let object = named(input, "ended").number("end", ended.end.number() as usize);
-                            object.number("steps", ended.steps as usize).words("state", state).text("text", &text).end()
+                            object.number("steps", ended.steps as usize).words("state", state).text("text", &text)
                         };
-                        line(self.options, input, ACCEPTED, &format!("{ended}: {text}"), json)
+                        form.line(input, ACCEPTED, format_args!("{ended}: {text}"), json, answers)
                     }
-                    Err(refusal) => self.refused(input, refusal),
+                    Err(refusal) => form.refused(input, refusal, answers),
                 }
             }
-            Command::Show => match self.style.show(&term) {
+            Command::Show => match form.style.show(term) {
                 Ok(text) => {
-                    let json = || named(input, "shown").words("words", &term).text("text", &text).end();
+                    let json = || named(input, "shown").words("words", term).text("text", &text);
                     // a term of several lines begins in the first column
-                    let broken = text.contains('\n') && !input.prefix().is_empty();
-                    line(self.options, input, ACCEPTED, &if broken { format!("\n{text}") } else { text.clone() }, json)
+                    let gap = if text.contains('\n') { '\n' } else { ' ' };
+                    form.line_after(gap, input, ACCEPTED, format_args!("{text}"), json, answers)
                 }
-                Err(refusal) => self.refused(input, refusal),
+                Err(refusal) => form.refused(input, refusal, answers),
             },
         }
     }
 
-    /// The words of an input; the answer where there are none.
-    pub fn read(&self, input: &Input) -> Result<Vec<u16>, Answer> {
-        match input.read() {
-            Ok(Held::Words(words)) => Ok(words),
+    /// The words of an input; where there are none, that is answered.
+    pub fn read(&mut self, input: &'a Input, answers: &mut Answers) -> Option<&[u16]> {
+        self.form.read(input, &mut self.room, answers)
+    }
+}
+
+/// How answers are written.
+#[derive(Clone, Copy)]
+pub struct Form<'a> {
+    pub options: &'a Options,
+    /// On one line, except where a term is what is asked for.
+    style: Style,
+}
+
+impl<'a> Form<'a> {
+    fn of(options: &'a Options) -> Form<'a> {
+        let several_lines = !options.json && matches!(options.command, Command::Show | Command::Explain);
+        Form { options, style: if several_lines { options.style } else { options.style.on_one_line() } }
+    }
+
+    fn read<'b>(&self, input: &'b Input, room: &'b mut Room, answers: &mut Answers) -> Option<&'b [u16]> {
+        match input.read(room) {
+            Ok(Held::Words(words)) => return Some(words),
             Ok(Held::NoList(why)) => {
                 let refusal = Refusal { reason: Reason::LengthNotAllowed, place: 0 };
-                if self.options.command != Command::Explain {
-                    return Err(self.refused_as(input, refusal, why));
+                if self.options.command == Command::Explain {
+                    let message = format!("The input has {why}.");
+                    self.explained(input, &Explanation { message, ..Explanation::of(refusal) }, answers);
+                } else {
+                    self.refused_as(input, refusal, format_args!("{why}"), answers);
                 }
-                let message = format!("The input has {why}.");
-                Err(self.explained(input, &Explanation { message, ..Explanation::of(refusal) }))
             }
             Err(why) => {
-                let json = named(input, "unreadable").text("text", &why).end() + "\n";
-                let text = if self.options.json { json } else { String::new() };
-                Err(Answer { text, complaint: Some(format!("{}: {why}", input.name())), status: FAILED })
+                if self.options.json {
+                    let json = || named(input, "unreadable").text("text", &why);
+                    self.line(input, FAILED, format_args!(""), json, answers);
+                }
+                answers.status = FAILED;
+                answers.complaints.push((answers.text.len(), format!("{}: {why}", input.name())));
             }
         }
+        None
     }
 
-    pub fn refused(&self, input: &Input, refusal: Refusal) -> Answer {
-        self.refused_as(input, refusal, &refusal.to_string())
+    fn typed(&self, input: &Input, found: &[u16], answers: &mut Answers) {
+        let text = self.text(found);
+        let json = || named(input, "typed").words("type", found).text("text", &text);
+        self.line(input, ACCEPTED, format_args!("typed: {text}"), json, answers);
     }
 
-    fn refused_as(&self, input: &Input, refusal: Refusal, why: &str) -> Answer {
-        line(self.options, input, REFUSED, &format!("refused: {why}"), || refused_object(input, refusal, why).end())
+    pub fn refused(&self, input: &Input, refusal: Refusal, answers: &mut Answers) {
+        self.refused_as(input, refusal, format_args!("{refusal}"), answers);
     }
 
-    fn explained(&self, input: &Input, explanation: &Explanation) -> Answer {
+    fn refused_as(&self, input: &Input, refusal: Refusal, why: Arguments, answers: &mut Answers) {
+        let json = || refused_object(input, refusal, &why.to_string());
+        self.line(input, REFUSED, format_args!("refused: {why}"), json, answers);
+    }
+
+    fn explained(&self, input: &Input, explanation: &Explanation, answers: &mut Answers) {
         let Explanation { refusal, shown, message, facts, variables, hint, least_limit, complete } = explanation;
         let json = || {
             let fact = |fact: &Fact| Object::new().text("name", fact.name).words("words", &fact.words).text("text", &fact.text);
@@ -115,23 +164,38 @@ impl<'a> Desk<'a> {
                 .optional("hint", hint.as_deref().map(string))
                 .optional("least_limit", least_limit.map(|least| least.to_string()))
                 .with("complete", if *complete { "true" } else { "false" })
-                .end()
         };
         // a line of its own between one explanation and the next
         let blank = if self.options.inputs.len() > 1 { "\n" } else { "" };
-        line(self.options, input, REFUSED, &format!("refused: {explanation}{blank}"), json)
+        self.line(input, REFUSED, format_args!("refused: {explanation}{blank}"), json, answers);
     }
-}
 
-fn typed(options: &Options, style: Style, input: &Input, found: &[u16]) -> Answer {
-    let text = text(style, found);
-    let json = || named(input, "typed").words("type", found).text("text", &text).end();
-    line(options, input, ACCEPTED, &format!("typed: {text}"), json)
-}
+    /// A type or a state as text.
+    pub fn text(&self, words: &[u16]) -> String {
+        self.style.show(words).expect("a type or a state is one term")
+    }
 
-/// A type or a state as text.
-pub fn text(style: Style, words: &[u16]) -> String {
-    style.show(words).expect("a type or a state is one term")
+    /// The text behind the file's name, or the JSON.
+    pub fn line(&self, input: &Input, status: u8, text: Arguments, json: impl FnOnce() -> Object, answers: &mut Answers) {
+        self.line_after(' ', input, status, text, json, answers);
+    }
+
+    fn line_after(
+        &self,
+        gap: char,
+        input: &Input,
+        status: u8,
+        text: Arguments,
+        json: impl FnOnce() -> Object,
+        answers: &mut Answers,
+    ) {
+        answers.status = status.max(answers.status);
+        _ = match input {
+            _ if self.options.json => writeln!(answers.text, "{}", json().end()),
+            Input::File(path) => writeln!(answers.text, "{}:{gap}{text}", path.display()),
+            _ => writeln!(answers.text, "{text}"),
+        };
+    }
 }
 
 /// An object that begins with the input's name and the kind of answer.
@@ -142,12 +206,4 @@ pub fn named(input: &Input, answer: &str) -> Object {
 fn refused_object(input: &Input, refusal: Refusal, why: &str) -> Object {
     let object = named(input, "refused").number("reason", refusal.reason.number() as usize);
     object.number("place", refusal.place).text("text", why)
-}
-
-/// The text behind the input's name, or the JSON.
-pub fn line(options: &Options, input: &Input, status: u8, text: &str, json: impl FnOnce() -> String) -> Answer {
-    let prefix = input.prefix();
-    let prefix = if text.starts_with('\n') { prefix.trim_end() } else { &prefix };
-    let text = if options.json { json() + "\n" } else { format!("{prefix}{text}\n") };
-    Answer { text, complaint: None, status }
 }

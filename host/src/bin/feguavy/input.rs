@@ -1,8 +1,8 @@
 //! Terms from files, from standard input and from text.
 
-use feguavy::{words_from_bytes, LONGEST};
+use feguavy::LONGEST;
 use std::fs::File;
-use std::io::{self, Read};
+use std::io::{self, ErrorKind, Read};
 use std::path::PathBuf;
 
 #[derive(Debug)]
@@ -16,10 +16,23 @@ pub enum Input {
 }
 
 /// What an input holds.
-pub enum Held {
-    Words(Vec<u16>),
+pub enum Held<'a> {
+    Words(&'a [u16]),
     /// Bytes that are no list of 0 to 1,024 words, which is refusal 4; why they are none.
     NoList(&'static str),
+}
+
+/// What inputs are read into, one after another.
+pub struct Room {
+    /// Those of the longest term, and one more to see that there are more.
+    bytes: [u8; 2 * LONGEST + 1],
+    words: Vec<u16>,
+}
+
+impl Default for Room {
+    fn default() -> Room {
+        Room { bytes: [0; 2 * LONGEST + 1], words: Vec::with_capacity(LONGEST) }
+    }
 }
 
 impl Input {
@@ -32,40 +45,43 @@ impl Input {
         }
     }
 
-    /// What stands before a line of text: a file's name.
-    pub fn prefix(&self) -> String {
-        match self {
-            Input::File(path) => format!("{}: ", path.to_string_lossy()),
-            _ => String::new(),
-        }
-    }
-
-    pub fn read(&self) -> Result<Held, String> {
-        let bytes = match self {
-            Input::Words(words) => return Ok(Held::Words(words.clone())),
+    pub fn read<'a>(&'a self, room: &'a mut Room) -> Result<Held<'a>, String> {
+        let count = match self {
+            Input::Words(words) => return Ok(Held::Words(words)),
             Input::StandardWords => {
                 let mut text = String::new();
                 io::stdin().lock().read_to_string(&mut text).map_err(|error| error.to_string())?;
-                return words(&text).map(Held::Words);
+                room.words = words(&text)?;
+                return Ok(Held::Words(&room.words));
             }
-            Input::File(path) => File::open(path).and_then(first_bytes),
-            Input::Standard => first_bytes(io::stdin().lock()),
+            Input::File(path) => File::open(path).and_then(|file| fill(file, &mut room.bytes)),
+            Input::Standard => fill(io::stdin().lock(), &mut room.bytes),
         };
-        Ok(match bytes.map_err(|error| error.to_string())? {
-            bytes if bytes.len() > 2 * LONGEST => Held::NoList("over 2,048 bytes, which are over 1,024 words (refusal 4)"),
-            bytes => {
-                words_from_bytes(&bytes).map_or(Held::NoList("an odd number of bytes, which are no words (refusal 4)"), Held::Words)
+        let bytes = &room.bytes[..count.map_err(|error| error.to_string())?];
+        Ok(match bytes.len() {
+            count if count > 2 * LONGEST => Held::NoList("over 2,048 bytes, which are over 1,024 words (refusal 4)"),
+            count if count % 2 == 1 => Held::NoList("an odd number of bytes, which are no words (refusal 4)"),
+            _ => {
+                room.words.clear();
+                room.words.extend(bytes.chunks_exact(2).map(|pair| u16::from_le_bytes([pair[0], pair[1]])));
+                Held::Words(&room.words)
             }
         })
     }
 }
 
-/// The bytes of the longest term, and one more if there is one.
-fn first_bytes(source: impl Read) -> io::Result<Vec<u8>> {
-    let most = 2 * LONGEST + 1;
-    let mut bytes = Vec::with_capacity(most);
-    source.take(most as u64).read_to_end(&mut bytes)?;
-    Ok(bytes)
+/// Reads until the end or until the room is full, and answers how many bytes.
+fn fill(mut source: impl Read, room: &mut [u8]) -> io::Result<usize> {
+    let mut count = 0;
+    while count < room.len() {
+        match source.read(&mut room[count..]) {
+            Ok(0) => break,
+            Ok(more) => count += more,
+            Err(error) if error.kind() == ErrorKind::Interrupted => {}
+            Err(error) => return Err(error),
+        }
+    }
+    Ok(count)
 }
 
 /// Words in decimal, parted by white space.

@@ -28,13 +28,13 @@ fn main() -> ExitCode {
             return ExitCode::from(FAILED);
         }
     };
-    let mut output = io::BufWriter::with_capacity(1 << 16, io::stdout().lock());
+    let mut output = io::BufWriter::with_capacity(1 << 16, io::stdout());
     let mut status = ACCEPTED;
     let written = answered(&options, &mut output, &mut status).and_then(|()| output.flush());
     ended(written, status)
 }
 
-fn answered(options: &Options, output: &mut impl Write, status: &mut u8) -> io::Result<()> {
+fn answered(options: &Options, output: &mut (impl Write + Send), status: &mut u8) -> io::Result<()> {
     if options.command == Command::Run && options.trace {
         trace::each(options, output, status)
     } else {

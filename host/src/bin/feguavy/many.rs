@@ -1,75 +1,76 @@
 //! Many inputs on all cores: the answers come in the order of the inputs.
 
-use crate::answer::{Answer, Desk};
-use crate::complain;
+use crate::answer::{Answers, Desk};
 use crate::options::Options;
 use std::collections::BTreeMap;
 use std::io::{self, IsTerminal, Write};
 use std::sync::atomic::{AtomicUsize, Ordering};
-use std::sync::mpsc;
+use std::sync::Mutex;
 use std::time::{Duration, Instant};
 
-/// How many inputs a thread takes at once: few, so that all threads end at about the same time, but no wake for each small one.
+/// How many inputs a thread takes at once: few, so that all threads end at about the same time, but not each small one by itself.
 fn chunk(inputs: usize, cores: usize) -> usize {
     (inputs / (16 * cores)).clamp(1, 256)
 }
 
-pub fn each(options: &Options, output: &mut impl Write, status: &mut u8) -> io::Result<()> {
+pub fn each(options: &Options, output: &mut (impl Write + Send), status: &mut u8) -> io::Result<()> {
     let cores = std::thread::available_parallelism().map_or(1, usize::from);
     let chunks: Vec<_> = options.inputs.chunks(chunk(options.inputs.len(), cores)).collect();
-    let mut progress = Progress::of(options.inputs.len());
-    if chunks.len() < 2 || cores < 2 {
-        let mut desk = Desk::new(options);
-        for input in &options.inputs {
-            write(&[desk.answer(input)], output, status, &mut progress)?;
-        }
-        return Ok(());
-    }
     let next = AtomicUsize::new(0);
-    std::thread::scope(|scope| {
-        let (sender, receiver) = mpsc::channel();
-        for _ in 0..cores.min(chunks.len()) {
-            let (sender, next, chunks) = (sender.clone(), &next, &chunks);
-            scope.spawn(move || {
-                let mut desk = Desk::new(options);
-                while let Some((at, chunk)) = Some(next.fetch_add(1, Ordering::Relaxed)).and_then(|at| Some((at, chunks.get(at)?)))
-                {
-                    let answers: Vec<Answer> = chunk.iter().map(|input| desk.answer(input)).collect();
-                    // where nothing can be written any more, nobody receives
-                    if sender.send((at, answers)).is_err() {
-                        break;
-                    }
-                }
-            });
-        }
-        drop(sender);
-        let (mut early, mut due) = (BTreeMap::new(), 0);
-        for (at, answers) in receiver {
-            early.insert(at, answers);
-            while let Some(answers) = early.remove(&due) {
-                write(&answers, output, status, &mut progress)?;
-                due += 1;
+    let progress = Progress::of(options.inputs.len());
+    let order = Mutex::new(Order { output, progress, due: 0, early: BTreeMap::new(), status: 0, written: Ok(()) });
+    let work = || {
+        let mut desk = Desk::new(options);
+        while let Some((at, chunk)) = Some(next.fetch_add(1, Ordering::Relaxed)).and_then(|at| Some((at, chunks.get(at)?))) {
+            let mut answers = Answers::default();
+            chunk.iter().for_each(|input| desk.answer(input, &mut answers));
+            let goes_on = order.lock().expect("no thread panics").take(at, answers);
+            if !goes_on {
+                break;
             }
         }
-        Ok(())
-    })
+    };
+    std::thread::scope(|scope| {
+        for _ in 1..cores.min(chunks.len()) {
+            scope.spawn(work);
+        }
+        work();
+    });
+    let order = order.into_inner().expect("no thread panics");
+    *status = order.status;
+    order.written
 }
 
-fn write(answers: &[Answer], output: &mut impl Write, status: &mut u8, progress: &mut Progress) -> io::Result<()> {
-    if progress.shares_the_terminal {
-        progress.clear();
-    }
-    for answer in answers {
-        *status = answer.status.max(*status);
-        output.write_all(answer.text.as_bytes())?;
-        if let Some(complaint) = &answer.complaint {
-            progress.clear();
-            // in the order of the inputs where both go to one place
-            output.flush()?;
-            complain(complaint);
+/// Writes what is answered for the chunks in their order, whichever is answered first.
+struct Order<'a, W> {
+    output: &'a mut W,
+    progress: Progress,
+    /// The next chunk to be written, and what comes after it.
+    due: usize,
+    early: BTreeMap<usize, Answers>,
+    status: u8,
+    written: io::Result<()>,
+}
+
+impl<W: Write> Order<'_, W> {
+    /// Takes the answers of a chunk, and tells whether more can be written.
+    fn take(&mut self, at: usize, answers: Answers) -> bool {
+        self.early.insert(at, answers);
+        while let (Ok(()), Some(answers)) = (&self.written, self.early.remove(&self.due)) {
+            self.written = self.write(&answers);
+            self.due += 1;
         }
+        self.written.is_ok()
     }
-    progress.done(answers.len(), output)
+
+    fn write(&mut self, answers: &Answers) -> io::Result<()> {
+        if self.progress.shares_the_terminal || answers.complain() {
+            self.progress.clear();
+        }
+        self.status = answers.status.max(self.status);
+        answers.write(self.output)?;
+        self.progress.done(answers.count, self.output)
+    }
 }
 
 /// A line on a terminal that says how many inputs are answered.
