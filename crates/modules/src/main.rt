@@ -6,11 +6,12 @@ use protocol::answer;
 use protocol::output::Output;
 use protocol::request::Request;
 use streams::Transfer;
+use text::words;
 ghost use mathlib.Core.List.{[], _∷_, _++_};
 ghost use Rattle.text.specs.Appending.{Appends};
 ghost use Rattle.text.specs.Texts.{ascii, spaced};
-
-mod words;
+ghost use Rattle.protocol.specs.Answers.{Replies};
+ghost use Rattle.modules.specs.Files.{file-reply, tabbed, Tells};
 
 // How many bytes of the path are kept, and whether any byte of the line was read.
 struct Name {
@@ -52,38 +53,36 @@ fn load(path: &[u8], bytes: &mut [u8]) -> Transfer {
     got
 }
 
-// The answer to a file of `count` bytes: an odd number and one over 2,048 are no allowed length.
-fn judged(
-    request: Request,
-    bytes: &[u8],
-    count: usize,
-    work: &mut [u16],
-    out: &mut [u8],
-    at: usize,
-) -> usize {
-    if 2048 < count {
-        return answer::refusal(4, 0, out, at);
+// The answer to a file's bytes.
+fn judged(request: Request, bytes: &[u8], work: &mut [u16], out: &mut [u8], at: usize) -> usize
+    ensures { λ r. ⌜ Replies (file-reply request (now (bytes .entry)) (now (work .entry)))
+        (now (work .exit)) (now (out .entry)) at r (now (out .exit)) ⌝ }
+{
+    if words::allowed(bytes) {
+        let mut term = [0u16; 1024];
+        words::of_bytes(bytes, &mut term);
+        return answer::line(request.with_count(bytes.len() / 2), &term, work, out, at);
     }
-    if count % 2 != 0 {
-        return answer::refusal(4, 0, out, at);
-    }
-    let mut term = [0u16; 1024];
-    words::of_bytes(bytes, &mut term);
-    answer::line(request.with_count(count / 2), &term, work, out, at)
+    answer::refusal(4, 0, out, at)
 }
 
 // The answer to one path.
-fn answered(request: Request, path: &[u8], work: &mut [u16], out: &mut [u8], at: usize) -> usize {
+fn answered(request: Request, path: &[u8], work: &mut [u16], out: &mut [u8], at: usize) -> usize
+    ensures { λ r. ⌜ Tells request (λ a. a) (now (work .entry)) (now (work .exit)) (now (out .entry)) at r (now (out .exit)) ⌝ }
+{
     let mut bytes = [0u8; 2049];
     let got = load(path, &mut bytes);
     if got.error != 0 {
         return unreadable(got.error, out, at);
     }
-    judged(request, &bytes, got.count, work, out, at)
+    judged(request, text::filled(&bytes, got.count), work, out, at)
 }
 
 // The line of one path: the answer, a tab, the path and a line feed.
-fn line(request: Request, path: &[u8], work: &mut [u16], out: &mut [u8], at: usize) -> usize {
+fn line(request: Request, path: &[u8], work: &mut [u16], out: &mut [u8], at: usize) -> usize
+    ensures { λ r. ⌜ Tells request (tabbed (now (path .entry)))
+        (now (work .entry)) (now (work .exit)) (now (out .entry)) at r (now (out .exit)) ⌝ }
+{
     let end = answered(request, path, work, out, at);
     let tabbed = text::byte(b'\t', out, end);
     let named = text::bytes(path, out, tabbed);

@@ -43,6 +43,11 @@ pub not-false : (b : Bool) → not b ≡ false → b ≡ true
 not-false true e = refl
 not-false false e = sym e
 
+-- Only the words that are kept count.
+pub kept-alone : (q : Request) (ws us W : List ℕ) → take (q .count) ws ≡ take (q .count) us → reply q ws W ≡ reply q us W
+unfolding reply
+kept-alone q ws us W e = rw e refl
+
 -- The reply, once it is known whether the line is a request.
 module _ (q : Request) (ws W : List ℕ) {out after : List ℕ} {at r : ℕ} where
   pub answers-error : is-request q ≡ false → Appends (ascii "error") out at r after → Replies (reply q ws W) W out at r after

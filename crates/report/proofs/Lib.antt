@@ -1,5 +1,4 @@
 -- The laws behind the functions' proofs.
-pub mod Pairs
 pub mod Admitting
 pub mod Judging
 pub mod Example

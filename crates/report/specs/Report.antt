@@ -1,24 +1,17 @@
 -- What the report program prints, from the bytes that it reads (document 01, The report program).
-use Prim.Native.Nat.{ℕ, _+_, _*_, _%_, min}
+use Prim.Native.Nat.{ℕ, min}
 use Prim.Native.String.{String}
-use mathlib.Core.Bool.{_&&_}
 use mathlib.Core.List.{List, [], _∷_, _++_}
 use mathlib.Core.Path.{_≡_}
-use lib.Dec.{leb, eqb}
-use lib.ListN.{length, take}
+use lib.ListN.{take}
 use Rattle.calculus.specs.Term.{Term}
 use Rattle.calculus.specs.Answer.{Answer, ok, refused, _>>=_, _>>_, require, number, length-not-allowed}
 use Rattle.calculus.specs.Words.{words}
 use Rattle.calculus.specs.Scan.{read}
 use Rattle.calculus.specs.Infer.{infer}
 use Rattle.calculus.specs.Run.{Ended, run-from, end-number}
+use Rattle.text.specs.Pairs.{pairs, allowed}
 use Rattle.text.specs.Texts.{ascii, decimal, list}
-
--- "Words of two bytes, low byte first." A byte over makes no word.
-unfoldable pub pairs : List ℕ → List ℕ
-pairs [] = []
-pairs (low ∷ []) = []
-pairs (low ∷ high ∷ bytes) = (low + 256 * high) ∷ pairs bytes
 
 -- "L is 32, budget and allowance 1,000."
 abbrev pub limit : ℕ
@@ -40,7 +33,7 @@ judged ws = do
 -- "An odd number of bytes, or over 2,048, is answer 4."
 unfoldable pub outcome : List ℕ → Answer (Term × Ended)
 outcome bytes = do
-  require length-not-allowed 0 (leb (length bytes) 2048 && eqb (length bytes % 2) 0)
+  require length-not-allowed 0 (allowed bytes)
   judged (pairs bytes)
 
 -- "Answer (0 or a refusal), place, type, end, steps, state."

@@ -5,6 +5,7 @@ use libc::STDIN_FILENO;
 use libc::STDOUT_FILENO;
 use term::walk::span;
 use text::front;
+use text::words;
 ghost use Prim.Native.Nat.{_+_, _*_, _≤_};
 ghost use mathlib.Core.List.{[], _∷_, _++_};
 ghost use mathlib.Core.Path.{_≡_};
@@ -12,7 +13,7 @@ ghost use lib.ListN.{length};
 ghost use lib.Seq.{sets};
 ghost use Rattle.text.specs.Appending.{Appends};
 ghost use Rattle.text.specs.Texts.{decimal, list};
-ghost use Rattle.report.specs.Report.{pairs, judged, outcome, told, printed, report-of};
+ghost use Rattle.report.specs.Report.{judged, outcome, told, printed, report-of};
 ghost use Rattle.report.specs.Shown.{shown, Tells, Prints};
 
 // What is printed, but for the lists, of which it has the lengths.
@@ -36,26 +37,6 @@ fn refused(answer: u32, place: u32) -> Findings
         end: 0,
         steps: 0,
         count: 0,
-    }
-}
-
-// The word of two bytes.
-fn word(low: u8, high: u8) -> u16
-    ensures { λ r. ⌜ r ≡ low + 256 * high ⌝ }
-{
-    low as u16 + 256 * high as u16
-}
-
-// Stores the words of two bytes each at the start of `words`.
-fn read_words(bytes: &[u8], words: &mut [u16])
-    requires { ⌜ length (now bytes) ≤ 2 * length (now words) ⌝ }
-    ensures { λ _. ⌜ now (words .exit) ≡ sets (now (words .entry)) 0 (pairs (now (bytes .entry))) ⌝ }
-{
-    let count = bytes.len() / 2;
-    let mut i = 0;
-    while i < count {
-        words[i] = word(bytes[2 * i], bytes[2 * i + 1]);
-        i += 1;
     }
 }
 
@@ -91,15 +72,12 @@ fn answer(bytes: &[u8], output: &mut [u16], state: &mut [u16]) -> Findings
     ensures { λ r. ⌜ Tells (told (outcome (now (bytes .entry)))) r
         (now (output .entry)) (now (output .exit)) (now (state .entry)) (now (state .exit)) ⌝ }
 {
-    if 2048 < bytes.len() {
-        return refused(4, 0);
+    if words::allowed(bytes) {
+        let mut words = [0u16; 1024];
+        words::of_bytes(bytes, &mut words);
+        return judge(front(&words, bytes.len() / 2), output, state);
     }
-    if bytes.len() % 2 != 0 {
-        return refused(4, 0);
-    }
-    let mut words = [0u16; 1024];
-    read_words(bytes, &mut words);
-    judge(front(&words, bytes.len() / 2), output, state)
+    refused(4, 0)
 }
 
 // A name and its value, of at most ten digits, with a line feed.

@@ -4,3 +4,4 @@ pub mod Decimals
 pub mod Lists
 pub mod Lengths
 pub mod Edges
+pub mod Pairs

@@ -1,3 +1,4 @@
 -- What the contracts of this crate cite.
 pub mod Appending
+pub mod Pairs
 pub mod Texts

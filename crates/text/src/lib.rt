@@ -6,6 +6,8 @@ ghost use lib.ListN.{take};
 ghost use Rattle.text.specs.Appending.{Appends};
 ghost use Rattle.text.specs.Texts.{decimal, list, spaced};
 
+pub mod words;
+
 // The first `count` words, or all where there are fewer.
 pub fn front(words: &[u16], count: usize) -> &[u16]
     ensures { λ r. ⌜ now r ≡ take count (now (words .entry)) ⌝ }

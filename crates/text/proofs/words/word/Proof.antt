@@ -1,8 +1,8 @@
 -- `word` meets its contract: a byte and 256 times a byte are at most 65,535 together.
 use mathlib.Core.Path.{refl}
 use native.Mathlib.Omega.{arith}
-use Rattle.report.proofs.word.Statement.{statement}
-use Rattle.report.proofs.word.Tie as tie
+use Rattle.text.proofs.words.word.Statement.{statement}
+use Rattle.text.proofs.words.word.Tie as tie
 
 returns : tie.Need-returns
 returns c = refl

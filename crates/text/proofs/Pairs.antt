@@ -1,15 +1,18 @@
 -- Words of two bytes each, by their index: word `i` is made of the bytes `2 * i` and `2 * i + 1`, and there are half as many words
 -- as bytes. So storing them one after the other stores them all.
-use Prim.Native.Nat.{ℕ, zero, suc, _+_, _*_, _/_, _≤_, _<_}
+use Prim.Native.Nat.{ℕ, zero, suc, _+_, _*_, _/_, _%_, _≤_, _<_}
+use mathlib.Core.Bool.{Bool, true, false, _&&_}
 use mathlib.Core.List.{List, [], _∷_}
 use mathlib.Core.Path.{_≡_, refl, sym, ap, _∙_}
+use borrow.Author.Tests.{le-leb, lt-leb, leb-true}
 use native.Mathlib.Nat.{zero-add}
 use native.Mathlib.Numerals.{add-one}
 use native.Mathlib.Omega.{arith}
+use lib.Dec.{leb, eqb}
 use lib.ListN.{length, take, drop, getD, set, length-take}
 use lib.Seq.{sets, sets-eq, take-at, take-suc}
 use Rattle.calculus.proofs.Stores.{sets-append}
-use Rattle.report.specs.Report.{pairs}
+use Rattle.text.specs.Pairs.{pairs, allowed}
 
 pub length-pairs : (bs : List ℕ) → length (pairs bs) ≡ length bs / 2
 unfolding pairs
@@ -36,5 +39,25 @@ store-next ws l i h =
     ∙ ap (λ n. set (sets l 0 (take i ws)) n (getD ws i 0)) (zero-add (length (take i ws)) ∙ count))
 
 -- What is stored from the start on is found there.
-pub stored : (ws l : List ℕ) (n : ℕ) → n ≡ length ws → length ws ≤ length l → take n (sets l 0 ws) ≡ ws
+stored : (ws l : List ℕ) (n : ℕ) → n ≡ length ws → length ws ≤ length l → take n (sets l 0 ws) ≡ ws
 stored ws l n e h = ap (take n) (sets-eq ws l 0 (omega arith)) ∙ take-at ws (drop (0 + length ws) l) n (sym e)
+
+-- The test of the number of bytes.
+pub over : (bs : List ℕ) → 2048 < length bs → allowed bs ≡ false
+unfolding allowed
+over bs h = rw (lt-leb (length bs) 2048 h) refl
+
+pub by-parity : (bs : List ℕ) → length bs ≤ 2048 → eqb (length bs % 2) 0 ≡ allowed bs
+unfolding allowed
+by-parity bs h = rw (le-leb (length bs) 2048 h) refl
+
+first-true : (a b : Bool) → a && b ≡ true → a ≡ true
+first-true true b e = refl
+first-true false b e = e
+
+-- All words of allowed bytes are stored in the room of the longest term, and found there.
+pub all-stored : (bs l : List ℕ) → allowed bs ≡ true → length l ≡ 1024 → take (length bs / 2) (sets l 0 (pairs bs)) ≡ pairs bs
+unfolding allowed
+all-stored bs l e room =
+    let short : length bs ≤ 2048 = leb-true (length bs) 2048 (first-true (leb (length bs) 2048) (eqb (length bs % 2) 0) e) in
+    stored (pairs bs) l (length bs / 2) (sym (length-pairs bs)) (omega (arith, length-pairs bs))
