@@ -21,7 +21,7 @@ pub struct Answers {
 }
 
 impl Answers {
-    pub fn complain(&self) -> bool {
+    pub fn has_complaints(&self) -> bool {
         !self.complaints.is_empty()
     }
 

@@ -64,7 +64,7 @@ impl<W: Write> Order<'_, W> {
     }
 
     fn write(&mut self, answers: &Answers) -> io::Result<()> {
-        if self.progress.shares_the_terminal || answers.complain() {
+        if self.progress.shares_the_terminal || answers.has_complaints() {
             self.progress.clear();
         }
         self.status = answers.status.max(self.status);
