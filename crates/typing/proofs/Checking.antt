@@ -30,12 +30,12 @@ use Rattle.reduction.specs.Writing.{Writes}
 use Rattle.reduction.proofs.Begun.{writes-begun, cleared-same}
 use Rattle.typing.specs.declared.Checked.{Checked}
 use Rattle.typing.specs.declared.Checked.the-variants as checked
-use Rattle.typing.specs.declared.inference.Inferred.{Inferred}
-use Rattle.typing.specs.declared.inference.Inferred.the-variants as inferred
-use Rattle.typing.specs.Inference.{Subject, Placed, Roomy, Infers, finds, refuses, inferred-of}
+use Rattle.inference.specs.declared.Inferred.{Inferred}
+use Rattle.inference.specs.declared.Inferred.the-variants as inferred
+use Rattle.inference.specs.Inference.{Subject, Placed, Roomy, Infers, finds, refuses, inferred-of}
 use Rattle.typing.specs.Outcomes.{checked-of}
-use Rattle.typing.proofs.Scoping.{inferred-fits}
-use Rattle.typing.proofs.Passing as passing
+use Rattle.inference.proofs.Scoping.{inferred-fits}
+use Rattle.inference.proofs.Passing as passing
 
 -- A refusal that leaves the slices as they were.
 pub refused-out : {ws : List ℕ} {L : ℕ} {W O : List ℕ} {r : Checked} {f : Refusal}

@@ -3,14 +3,10 @@
 use Prim.Native.Nat.{ℕ}
 use mathlib.Core.Bool.{true≢false}
 use mathlib.Core.List.{List}
-use mathlib.Core.Path.{_≡_, sym, ap, ap₂, _∙_}
-use Rattle.calculus.specs.Answer.{Reason, refused}
+use mathlib.Core.Path.{_≡_, ap, ap₂}
 use Rattle.term.proofs.Maps.{reason-of-injective}
 use Rattle.typing.specs.declared.Checked.{Checked}
 use Rattle.typing.specs.declared.Checked.the-variants as checked
-use Rattle.typing.specs.declared.inference.Inferred.{Inferred}
-use Rattle.typing.specs.declared.inference.Inferred.the-variants as inferred
-use Rattle.typing.specs.Inference.{inferred-of}
 use Rattle.typing.specs.Outcomes.{answer-of, checked-of}
 
 answer-of-injective : (r s : Checked) → answer-of r ≡ answer-of s → r ≡ s
@@ -24,11 +20,3 @@ pub checked-of-injective : (r s : Checked) {W W′ O O′ : List ℕ}
     → checked-of r W O ≡ checked-of s W′ O′
     → (r ≡ s) × (W ≡ W′) × (O ≡ O′)
 checked-of-injective r s e = (answer-of-injective r s (ap (λ c. c .answer) e), ap (λ c. c .work) e, ap (λ c. c .output) e)
-
--- Of an answer of inference its map keeps a refusal whole. (A type's length and that of its subterm stand in `TypeFound`.)
-pub inferred-refused : (r s : Inferred) {x : Reason} {p : ℕ} → inferred-of r ≡ refused x p → inferred-of s ≡ refused x p → r ≡ s
-inferred-refused (inferred.Typed n m) s d e = absurd (true≢false (cc d))
-inferred-refused (inferred.Refused f) (inferred.Typed n m) d e = absurd (true≢false (cc e))
-inferred-refused (inferred.Refused f) (inferred.Refused g) d e =
-    let same = d ∙ sym e in
-    ap₂ (λ r p. inferred.Refused (record { reason = r; place = p })) (reason-of-injective (f .reason) (g .reason) (cc same)) (cc same)

@@ -1,6 +1,6 @@
 // The check (document 01, Calls): the type of a closed term within a limit, or the first rule that fails.
-use crate::inference::Inferred;
-use crate::inference::infer;
+use inference::Inferred;
+use inference::infer;
 use reduction::clearing::clear;
 use reduction::copying::copy;
 use term::reading::Reading;
@@ -10,10 +10,6 @@ use term::refusal::Refusal;
 ghost use mathlib.Core.Path.{_≡_};
 ghost use Rattle.calculus.specs.Outcomes.{check};
 ghost use Rattle.typing.specs.Outcomes.{checked-of};
-
-mod comparing;
-mod inference;
-mod moving;
 
 // Typed with the length of the type, or refused.
 pub enum Checked {

@@ -1,0 +1,153 @@
+-- What is known at the later places of `recursion`, from the answers up to there. Once `star_part` has answered, the annotation
+-- is typed, so that its own words are known and the words reach beyond it. Once `infer` has answered, both parts are typed, and
+-- there is room behind the body's type, since no call changes the slice's length. What is written there is the raised annotation,
+-- and the comparison says whether that is the body's type.
+use Prim.Native.Nat.{ℕ, _+_, _-_, _*_, _≤_, _<_, _^_}
+use mathlib.Core.Bool.{true, false, not}
+use mathlib.Core.List.{_∷_}
+use mathlib.Core.Logic.{_≢_}
+use mathlib.Core.Path.{_≡_, sym, ap, _∙_}
+use native.Mathlib.Nat.{le-refl}
+use native.Mathlib.Omega.{arith}
+use lib.ListN.{length, take, drop}
+use lib.Seq.{sets}
+use Rattle.calculus.specs.Term.{Term, mu, raise}
+use Rattle.calculus.specs.Words.{words, longest}
+use Rattle.calculus.specs.Rules.{Context}
+use Rattle.reduction.specs.Rewriting.{raised}
+use Rattle.reduction.proofs.Rewritten.{raised-words}
+use Rattle.inference.specs.Inference.{Subject, star-typed}
+use Rattle.inference.proofs.Nodes.{of-mu}
+use Rattle.inference.proofs.Subjects.{behind, first}
+use Rattle.inference.proofs.Rooms.{room-two}
+use Rattle.inference.proofs.Passing.{Part, typed}
+use Rattle.inference.proofs.Parts.{Both, annotation-words, reaches, below, both-below}
+use Rattle.inference.proofs.Raising.{raise-size}
+use Rattle.inference.proofs.Written.{wrote}
+use Rattle.inference.proofs.Compared.{compared-behind}
+use Rattle.inference.proofs.recursion.Reads as recursion
+use Rattle.inference.proofs.+abstraction+application+cast_down+cast_up+infer+product+recursion+star_part.Lts-recursion as recursion-lts
+use Rattle.inference.proofs.+abstraction+application+cast_down+cast_up+infer+product+recursion+star_part.Proof.Measures.{recursion-at, recursion-claims}
+
+-- The recursion, as the subject where the code starts.
+abbrev pub Node : (t : ℕ)
+    → recursion-lts.Start (recursion-claims t) (recursion-at t) recursion.Post
+    → Context → Term → Term → Type 0
+Node t start Γ a e =
+    Subject Γ (mu a e) (start .args .term .now) (start .args .sub .now) (start .args .context .now) (start .args .depth)
+
+-- The start, from where the annotation is typed; and that place, from where both parts are.
+abbrev pub start-place : (t : ℕ)
+    → recursion-lts.After-known-told (recursion-claims t) (recursion-at t) recursion.Post
+    → recursion-lts.Start (recursion-claims t) (recursion-at t) recursion.Post
+start-place t c = c .before .before .before .before .before .before .before .before .before .before .before .before
+
+abbrev pub annotation-place : (t : ℕ)
+    → recursion-lts.After-known-told2 (recursion-claims t) (recursion-at t) recursion.Post
+    → recursion-lts.After-known-told (recursion-claims t) (recursion-at t) recursion.Post
+annotation-place t c = c .before .before .before .before .before .before .before .before .before .before
+
+-- The annotation is typed.
+pub typed-annotation : (t : ℕ) (c : recursion-lts.After-known-told (recursion-claims t) (recursion-at t) recursion.Post) (Γ : Context) (a e : Term)
+    → let start = start-place t c in
+    let annotation = c .before .annotation .given .0 in
+    let star-part = c .before .before .before .before .before .star-part in
+    Node t start Γ a e
+    → Part (star-typed (start .args .limit) Γ (length (start .args .term .now) - length (behind 1 (start .args .sub .now))) a) a
+    (start .args .context .now) (start .args .depth) (start .args .work .now) (start .args .top) (annotation .0) (annotation .1 .0)
+    (star-part .last .1 .1 .1 .1 .0) (star-part .last .1 .1 .0)
+typed-annotation t c Γ a e S =
+    typed (c .before .before .before .before .before .star-part .ensures Γ a (first S of-mu)) (c .before .annotation .given .1)
+
+-- The words reach beyond it.
+pub reach : (t : ℕ) (c : recursion-lts.After-known-told (recursion-claims t) (recursion-at t) recursion.Post)
+    → let start = start-place t c in
+    (1 + c .before .annotation .given .0 .0 < length (start .args .sub .now)) × (length (start .args .sub .now) ≤ longest)
+reach t c =
+    let start = start-place t c in
+    let P = start .pre .1 in
+    reaches (P .3) _ (typed-annotation t c (P .0) (P .1) (P .2) (P .3)) (of-mu {e = P .2})
+
+-- The words that are copied are its own.
+pub copied : (t : ℕ) (c : recursion-lts.After-known-told (recursion-claims t) (recursion-at t) recursion.Post) (Γ : Context) (a e : Term)
+    → let start = start-place t c in
+    Node t start Γ a e
+    → take (1 + c .before .annotation .given .0 .0 - 1) (drop 1 (start .args .sub .now)) ≡ words a
+copied t c Γ a e S = annotation-words S _ (typed-annotation t c Γ a e S) (of-mu {e = e})
+
+-- Both parts are typed.
+pub both : (t : ℕ) (c : recursion-lts.After-known-told2 (recursion-claims t) (recursion-at t) recursion.Post) (Γ : Context) (a e : Term)
+    → let after-infer = c .before .before .before .before .before in
+    let after-known-told = annotation-place t c in
+    let start = start-place t after-known-told in
+    Node t start Γ a e
+    → Both (start .args .limit) Γ (a ∷ Γ) (length (start .args .term .now) - length (start .args .sub .now)) a e
+    (start .args .context .now) (start .args .depth) (start .args .work .now) (start .args .top) (start .args .top)
+    (after-known-told .before .annotation .given .0 .0) (c .before .body .given .0 .0) (c .before .body .given .0 .1 .0)
+    (after-infer .infer .last .1 .1 .1 .1 .0) (after-infer .infer .last .1 .1 .0)
+both t c Γ a e S =
+    let after-infer = c .before .before .before .before .before in
+    let after-narrow = after-infer .before .before .before .before in
+    let start = start-place t (annotation-place t c) in
+    let A = typed-annotation t (annotation-place t c) Γ a e S in
+    let E = below S _ A (after-narrow .narrow .result) (of-mu {e = e}) (after-narrow .narrow .ensures) in
+    both-below S _ A (after-narrow .narrow .result) of-mu (after-narrow .narrow .ensures) (le-refl (start .args .top)) (typed (after-infer .infer .ensures (a ∷ Γ) e E) (c .before .body .given .1))
+
+-- The slice is as long as it was.
+pub long : (t : ℕ) (c : recursion-lts.After-known-told2 (recursion-claims t) (recursion-at t) recursion.Post)
+    → length (c .before .before .before .before .before .infer .last .1 .1 .1 .1 .0) ≡ length (start-place t (annotation-place t c) .args .work .now)
+long t c =
+    c .before .before .before .before .before .infer .kept .1 .1 .1 .1 .0
+    ∙ annotation-place t c .before .before .before .before .before .star-part .kept .1 .1 .1 .1 .0
+
+-- There is room behind the body's type.
+pub room : (t : ℕ) (c : recursion-lts.After-known-told2 (recursion-claims t) (recursion-at t) recursion.Post)
+    → let after-infer = c .before .before .before .before .before in
+    let start = start-place t (annotation-place t c) in
+    (start .args .top + (c .before .body .given .0 .1 .0 + start .args .limit) ≤ length (after-infer .infer .last .1 .1 .1 .1 .0))
+    × (c .before .body .given .0 .1 .0 ≤ start .args .limit)
+    × (length (after-infer .infer .last .1 .1 .1 .1 .0) * 2 < 2 ^ 63)
+room t c =
+    let start = start-place t (annotation-place t c) in
+    let P = start .pre .1 in
+    let B = both t c (P .0) (P .1) (P .2) (P .3) in
+    omega (arith, B .long, B .fits, room-two (P .4), start .good .1 .1 .1 .1 .0 .1, long t c)
+
+-- What is written there is the raised annotation.
+pub behind-type : (t : ℕ) (c : recursion-lts.After-raise (recursion-claims t) (recursion-at t) recursion.Post) (Γ : Context) (a e : Term)
+    → let after-body = c .before .before .before .before .before in
+    let after-infer = after-body .before .before .before .before in
+    let start = start-place t (after-infer .before .before .before .before .before) in
+    Node t start Γ a e
+    → c .raise .last .1 .1 .0 ≡ sets (after-infer .infer .last .1 .1 .1 .1 .0) (start .args .top + after-body .body .given .0 .1 .0) (words (raise 1 0 a))
+behind-type t c Γ a e S =
+    let after-known-told2 = c .before .before .before .before in
+    let after-known-told = annotation-place t after-known-told2 in
+    let B = both t after-known-told2 Γ a e S in
+    wrote (raise 1 0 a) (c .raise .ensures) (ap (raised 1) (copied t after-known-told Γ a e S) ∙ raised-words 1 a)
+    (omega (arith, room t after-known-told2, B .read, c .before .before .before .if1 .left, raise-size 1 0 a))
+
+-- It lies within the slice.
+pub room-raised : (t : ℕ) (c : recursion-lts.After-raise (recursion-claims t) (recursion-at t) recursion.Post)
+    → let after-body = c .before .before .before .before .before in
+    let start = start-place t (after-body .before .before .before .before .before .before .before .before .before) in
+    (start .args .top + after-body .body .given .0 .1 .0 + after-body .body .given .0 .1 .0 ≤ length (c .raise .last .1 .1 .0))
+    × (length (c .raise .last .1 .1 .0) * 2 < 2 ^ 63)
+room-raised t c = omega (arith, room t (c .before .before .before .before), c .raise .kept .1 .1 .0)
+
+-- Whether that is the body's type.
+pub compared : (t : ℕ) (c : recursion-lts.After-same (recursion-claims t) (recursion-at t) recursion.Post) (Γ : Context) (a e : Term)
+    → let after-known-told2 = c .before .before .before .before .before .before .before .before .before .before in
+    let start = start-place t (annotation-place t after-known-told2) in
+    (S : Node t start Γ a e)
+    → (not (c .same .result) ≡ true → raise 1 0 a ≢ both t after-known-told2 Γ a e S .type)
+    × (not (c .same .result) ≡ false → raise 1 0 a ≡ both t after-known-told2 Γ a e S .type)
+compared t c Γ a e S =
+    let after-raise = c .before .before .before .before .before .before in
+    let else1 = after-raise .before .before .before in
+    let after-known-told2 = else1 .before in
+    let B = both t after-known-told2 Γ a e S in
+    let x = behind-type t after-raise Γ a e S in
+    let r = room t after-known-told2 in
+    let as-long = else1 .if1 .left ∙ B .read ∙ sym (raise-size 1 0 a) in
+    compared-behind _ _ _ _ (raise 1 0 a) (B .type) (B .lies) x as-long (omega arith) (c .same .ensures)

@@ -1,0 +1,27 @@
+-- The laws behind the functions' proofs.
+pub mod Scoping
+pub mod Passing
+pub mod Nodes
+pub mod Subjects
+pub mod Rooms
+pub mod Alike
+pub mod Stored
+pub mod Raising
+pub mod Types
+pub mod Parts
+pub mod Written
+pub mod Moved
+pub mod Casting
+pub mod Heads
+pub mod Coded
+pub mod Lent
+pub mod Annotated
+pub mod Compared
+pub mod Applying
+pub mod Calling
+pub mod Putting
+pub mod Applied
+pub mod Binding
+pub mod Products
+pub mod Variables
+pub mod Maps

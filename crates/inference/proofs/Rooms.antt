@@ -1,0 +1,85 @@
+-- The room of a part and the codes of what inference hands on. A part has a level less than its node, so that it needs one type's room
+-- less; a term in scope of the context within the limit is what the steps and the rewriting ask for, since no context is deeper than
+-- 64 annotations.
+use Prim.Native.Nat.{ℕ, _+_, _≤_, _<_}
+use mathlib.Core.Bool.{Bool, true}
+use mathlib.Core.List.{List}
+use mathlib.Core.Path.{_≡_, sym, subst, _∙_}
+use native.Mathlib.Nat.{suc-mul, mul-le-mul-right}
+use native.Mathlib.Omega.{arith}
+use lib.ListN.{length}
+use Rattle.calculus.specs.Term.{Term, var, star, app, lam, pi, castup, castdown, mu, size}
+use Rattle.calculus.specs.Words.{words, levels, Scoped, longest, deepest}
+use Rattle.calculus.specs.Rules.{Context}
+use Rattle.calculus.proofs.Scoping.{scoped-more}
+use Rattle.reduction.specs.Stepping.{CodesWithin}
+use Rattle.inference.specs.Inference.{Subject, Roomy}
+use Rattle.inference.proofs.Subjects.{subject-long}
+
+levels-positive : (e : Term) → 1 ≤ levels e
+unfolding levels
+levels-positive (var i) = omega arith
+levels-positive star = omega arith
+levels-positive (app f u) = omega arith
+levels-positive (lam a e) = omega arith
+levels-positive (pi a b) = omega arith
+levels-positive (castup a e) = omega arith
+levels-positive (castdown e) = omega arith
+levels-positive (mu a e) = omega arith
+
+pub castdown-levels : (e : Term) → levels e < levels (castdown e)
+unfolding levels
+castdown-levels e = omega arith
+
+module _ {Γ : Context} {e : Term} {term sub places : List ℕ} {depth : ℕ} (S : Subject Γ e term sub places depth) where
+  -- There is a place for one annotation more.
+  pub subject-shallow : depth < deepest
+  subject-shallow = omega (arith, levels-positive e, S .deep)
+
+  pub own-scope : Scoped (length Γ) e
+  own-scope = subst (λ n. Scoped n e) (S .around) (S .scoped)
+
+  -- A term in scope of the context is in scope of the deepest one.
+  pub deeper-scoped : (τ : Term) → Scoped (length Γ) τ → Scoped deepest τ
+  deeper-scoped τ s = scoped-more τ (omega (arith, S .around, subject-shallow)) s
+
+  -- A term in scope of the context.
+  pub scoped-codes : {ws : List ℕ} (τ : Term) (closed : Bool)
+      → Scoped (length Γ) τ
+      → size τ ≤ longest
+      → ws ≡ words τ
+      → (closed ≡ true → depth ≡ 0)
+      → CodesWithin ws closed
+  scoped-codes τ closed s f x h =
+      record {
+        term = τ;
+        coded = x;
+        short = f;
+        scoped = deeper-scoped τ s;
+        shut = λ c. subst (λ n. Scoped n τ) (sym (S .around) ∙ h c) s;
+      }
+
+  -- The subterm itself.
+  pub subject-codes : {ws : List ℕ} (closed : Bool) → ws ≡ words e → (closed ≡ true → depth ≡ 0) → CodesWithin ws closed
+  subject-codes closed x h = scoped-codes e closed own-scope (omega (arith, subject-long S, S .within, S .short)) x h
+
+module _ {e : Term} {work : List ℕ} {top limit : ℕ} (R : Roomy e work top limit) where
+  -- Two types fit.
+  pub room-two : top + (limit + limit) ≤ length work
+  room-two = omega (arith, R .room, suc-mul (levels e) limit, mul-le-mul-right limit (levels-positive e))
+
+  -- A part's room, at the same top or behind one type.
+  pub roomy-part : {a : Term} {work′ : List ℕ} {top′ : ℕ}
+      → levels a < levels e
+      → length work′ ≡ length work
+      → top′ ≤ top + limit
+      → Roomy a work′ top′ limit
+  roomy-part h x t =
+      record {
+        some = R .some;
+        allowed = R .allowed;
+        room = omega (arith, R .room, suc-mul (levels e) limit, mul-le-mul-right limit h);
+      }
+
+  pub roomy-renamed : {d : Term} → e ≡ d → Roomy d work top limit
+  roomy-renamed x = subst (λ d. Roomy d work top limit) x R
