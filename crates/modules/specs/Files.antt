@@ -14,8 +14,8 @@ unfoldable pub file-reply : Request → List ℕ → List ℕ → Reply
 file-reply q bytes W =
     cond (allowed bytes) (reply (keeping q (length (pairs bytes))) (pairs bytes) W) (record { text = refusal-line 4 0; work = W })
 
--- What a path is answered: the reply to the bytes that were read from its file, or, where they could not be, "`unreadable ERROR`, with
--- the system's number".
+-- What a path may be answered: the reply to some bytes, or "`unreadable ERROR`, with the system's number", for some number. What a file
+-- holds, and whether it can be read, is the system's and not in the logic: that these are the file's own bytes is tested.
 pub data Told (q : Request) (W : List ℕ) : Reply → Type 0 where
   unreadable : (error : ℕ) → Told q W (record { text = ascii "unreadable" ++ spaced (error ∷ []); work = W })
   held : (bytes : List ℕ) → Told q W (file-reply q bytes W)
@@ -24,6 +24,6 @@ pub data Told (q : Request) (W : List ℕ) : Reply → Type 0 where
 abbrev pub tabbed : List ℕ → Reply → Reply
 tabbed path a = record { text = a .text ++ (9 ∷ []) ++ path ++ (10 ∷ []); work = a .work }
 
--- `Tells q f W W′ out at r out′`: what a path is told, in the form f, is appended to `out`.
+-- `Tells q f W W′ out at r out′`: what a path may be told, in the form f, is appended to `out`.
 pub data Tells (q : Request) (f : Reply → Reply) (W W′ out : List ℕ) (at r : ℕ) (out′ : List ℕ) : Type 0 where
   tells : {a : Reply} → Told q W a → Replies (f a) W′ out at r out′ → Tells q f W W′ out at r out′

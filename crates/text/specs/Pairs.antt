@@ -1,4 +1,4 @@
--- Words as bytes.
+-- Words as bytes (document 01, The report program).
 use Prim.Native.Nat.{ℕ, _+_, _*_, _%_}
 use mathlib.Core.Bool.{Bool, _&&_}
 use mathlib.Core.List.{List, [], _∷_}
