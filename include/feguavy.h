@@ -86,10 +86,11 @@ feguavy_found feguavy_part(const uint16_t *term, size_t term_len, uint32_t numbe
 
 /* The length of the term that `words` begins with, or `count` where the list ends inside the term: how long a state is. */
 static inline size_t feguavy_length(const uint16_t *words, size_t count) {
-    static const uint8_t parts[7] = {0, 1, 2, 2, 2, 2, 2};
     size_t at = 0, left = 1;
     while (at < count && left != 0) {
-        left += words[at] < 7 ? parts[words[at]] : 0u;
+        const size_t word = words[at];
+        /* the parts that follow: of words 0-6 the smaller of the word and 2, of the others none */
+        left += word < 2 ? word : word < 7 ? 2 : 0;
         left -= 1;
         at += 1;
     }

@@ -11,10 +11,13 @@ pub(crate) const RECURSION: u16 = 6;
 pub(crate) const VARIABLE: u16 = 16;
 const LAST_VARIABLE: u16 = 2047;
 
-/// How many parts follow a word.
+/// How many parts follow a word: of words 0–6 the smaller of the word and 2, of the others none.
 pub(crate) fn parts(word: u16) -> usize {
-    const PARTS: [usize; 7] = [0, 1, 2, 2, 2, 2, 2];
-    PARTS.get(word as usize).copied().unwrap_or(0)
+    if word <= RECURSION {
+        word.min(2).into()
+    } else {
+        0
+    }
 }
 
 /// Whether the node binds a variable in its second part.

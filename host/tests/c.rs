@@ -5,7 +5,8 @@ use std::fs::{create_dir_all, remove_dir_all, write};
 use std::path::{Path, PathBuf};
 use std::process::Command;
 
-/// Prints what the header says of every number, and the length of the term that a list begins with.
+/// Prints what the header says of every number, and the length of the term that a list begins with: of some lists, and behind each
+/// word of 0-6, and how many of the others have a part.
 const TEXTS: &str = r#"
 #include <feguavy.h>
 #include <stdio.h>
@@ -16,7 +17,14 @@ int main(void) {
     for (uint32_t n = 0; n <= (uint32_t)last + 1; n++) printf("%s\n", feguavy_refusal_text(n));
     for (uint32_t n = 0; n <= (uint32_t)fourth + 1; n++) printf("%s\n", feguavy_end_text(n));
     for (size_t count = 0; count <= 7; count++) printf("%zu ", feguavy_length(words, count));
-    printf("\n%s %d.%d.%d\n", FEGUAVY_VERSION, FEGUAVY_VERSION_MAJOR, FEGUAVY_VERSION_MINOR, FEGUAVY_VERSION_PATCH);
+    size_t parted = 0;
+    for (uint32_t word = 0; word <= 65535; word++) {
+        const uint16_t list[4] = {(uint16_t)word, 0, 0, 0};
+        const size_t length = feguavy_length(list, 4);
+        if (word < 7) printf("%zu ", length);
+        else parted += length != 1;
+    }
+    printf("%zu\n%s %d.%d.%d\n", parted, FEGUAVY_VERSION, FEGUAVY_VERSION_MAJOR, FEGUAVY_VERSION_MINOR, FEGUAVY_VERSION_PATCH);
     return 0;
 }
 "#;
@@ -66,7 +74,7 @@ fn texts_and_lengths() {
     let none = |text: &str| std::iter::once(text.to_string());
     let mut expected: Vec<String> = none("no refusal").chain(reasons).chain(none("no refusal")).collect();
     expected.extend(none("no end").chain(ends).chain(none("no end")));
-    expected.push("0 1 2 3 4 5 5 5 ".to_string());
+    expected.push("0 1 2 3 4 5 5 5 1 2 3 3 3 3 3 0".to_string());
     expected.push(format!("{0} {0}", env!("CARGO_PKG_VERSION")));
     for (compiler, language) in LANGUAGES {
         let lines = said(&mut Command::new(build(&folder, compiler, language, &source)));

@@ -109,6 +109,16 @@ fn parts() {
 }
 
 #[test]
+fn lengths() {
+    for (word, expected) in (0..=u16::MAX).zip([1, 2, 3, 3, 3, 3, 3].into_iter().chain(std::iter::repeat(1))) {
+        assert_eq!(feguavy::length(&[word, 0, 0, 0]), expected, "{word}");
+    }
+    for count in 0..=5 {
+        assert_eq!(feguavy::length(&words("2 4 0 16 0")[..count]), count);
+    }
+}
+
+#[test]
 fn ends_of_runs() {
     ends("1 3 2 4 0 16 0 0", 1000, End::Value, 1, "0");
     ends("1 3 2 4 0 16 0 0", 1, End::Spent, 1, "0");

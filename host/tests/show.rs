@@ -126,7 +126,7 @@ fn random(numbers: &mut Numbers, left: &mut usize, depth: u16, term: &mut Vec<u1
     }
     *left = left.saturating_sub(1);
     term.push(word as u16);
-    for part in 0..[0, 1, 2, 2, 2, 2, 2][word as usize] {
+    for part in 0..word.min(2) {
         random(numbers, left, depth + (word > 3 && part == 1) as u16, term);
     }
 }

@@ -19,23 +19,25 @@ const TURNS: usize = 5;
 enum Unit {
     Check,
     Step,
+    Part,
 }
 
 impl Unit {
-    const ALL: [Unit; 2] = [Unit::Check, Unit::Step];
+    const ALL: [Unit; 3] = [Unit::Check, Unit::Step, Unit::Part];
 
     fn name(self) -> &'static str {
         match self {
             Unit::Check => "check",
             Unit::Step => "run, a step",
+            Unit::Part => "part lookup",
         }
     }
 
     fn is_of(self, call: Call) -> bool {
-        match call {
-            Call::Check { .. } => self == Unit::Check,
-            Call::Run { .. } => self == Unit::Step,
-            Call::Part { .. } => false,
+        self == match call {
+            Call::Check { .. } => Unit::Check,
+            Call::Run { .. } => Unit::Step,
+            Call::Part { .. } => Unit::Part,
         }
     }
 }
@@ -68,24 +70,27 @@ impl Slices {
     }
 }
 
-/// One turn over all requests: its nanoseconds, and how many checks or steps there were.
+/// One turn over all requests: its nanoseconds, and how many checks, steps or lookups there were.
 fn turn(side: Side, requests: &[&Request], slices: &mut Slices) -> (f64, u64) {
     let start = Instant::now();
     let mut units = 0;
     for request in requests {
         let answer = side(request.call, black_box(&request.term), &mut slices.work, &mut slices.result);
         units += match (request.call, black_box(answer)) {
-            (Call::Check { .. }, _) => 1,
-            (_, Answer::Ended { steps, .. }) => steps as u64,
-            _ => 0,
+            (Call::Run { .. }, Answer::Ended { steps, .. }) => steps as u64,
+            (Call::Run { .. }, _) => 0,
+            _ => 1,
         };
     }
     (start.elapsed().as_nanos() as f64, units)
 }
 
-/// The least nanoseconds of a check or a step on each side: proved, reference.
-fn measured(unit: Unit, requests: &[Request], seconds: f64, slices: &mut Slices) -> [f64; 2] {
+/// The least nanoseconds of a check, a step or a lookup on each side, proved and reference; none where nothing asks for one.
+fn measured(unit: Unit, requests: &[Request], seconds: f64, slices: &mut Slices) -> Option<[f64; 2]> {
     let requests: Vec<&Request> = requests.iter().filter(|r| unit.is_of(r.call)).collect();
+    if requests.is_empty() {
+        return None;
+    }
     let (begin, mut turns, mut least) = (Instant::now(), 0, [f64::MAX; 2]);
     while turns < TURNS || begin.elapsed().as_secs_f64() < seconds {
         let [ours, theirs] = [proved as Side, reference].map(|side| turn(side, &requests, slices));
@@ -93,11 +98,14 @@ fn measured(unit: Unit, requests: &[Request], seconds: f64, slices: &mut Slices)
         least = [least[0].min(ours.0 / ours.1 as f64), least[1].min(theirs.0 / theirs.1 as f64)];
         turns += 1;
     }
-    least
+    Some(least)
 }
 
 /// The median of ratios and their range, as a cell of the table.
 fn cell(mut ratios: Vec<f64>) -> String {
+    if ratios.is_empty() {
+        return String::new();
+    }
     ratios.sort_by(f64::total_cmp);
     let (least, most) = (ratios[0], ratios[ratios.len() - 1]);
     let median = (ratios[(ratios.len() - 1) / 2] + ratios[ratios.len() / 2]) / 2.0;
@@ -111,12 +119,12 @@ fn main() {
     let seeds: Vec<u64> = arguments.map(|seed| seed.parse().expect(USAGE)).collect();
     assert!(!seeds.is_empty(), "{USAGE}");
     let mut slices = Slices::new();
-    let mut columns: [[Vec<f64>; 2]; 2] = Default::default();
+    let mut columns: [[Vec<f64>; 2]; Unit::ALL.len()] = Default::default();
     println!("nanoseconds, proved and reference, and their ratio");
     for &seed in &seeds {
         for (column, (kind, requests)) in [("mixed", mixed(seed)), ("slow", slow())].into_iter().enumerate() {
             for (row, unit) in Unit::ALL.into_iter().enumerate() {
-                let [ours, theirs] = measured(unit, &requests, seconds, &mut slices);
+                let Some([ours, theirs]) = measured(unit, &requests, seconds, &mut slices) else { continue };
                 println!("seed {seed:<10} {:<11} {kind:<5} {ours:>10.1} {theirs:>10.1} {:>5.2}", unit.name(), ours / theirs);
                 columns[row][column].push(ours / theirs);
             }

@@ -1,6 +1,7 @@
 -- The words and what they mean: the word `16 + i` means the variable `i` as long as `i` is below 2,032, and a word that means
--- something is the word of its meaning, so that no two words mean the same.
-use Prim.Native.Nat.{ℕ, zero, suc, _+_, _-_, _<_}
+-- something is the word of its meaning, so that no two words mean the same. A word from 7 on has no parts, whatever it means; how many
+-- the others have is computed, word by word.
+use Prim.Native.Nat.{ℕ, zero, suc, _+_, _-_, _≤_, _<_}
 use mathlib.Core.Bool.{Bool, true, false, cond}
 use mathlib.Core.List.{List, [], _∷_}
 use mathlib.Core.Logic.{_⊎_, inl, inr}
@@ -8,8 +9,8 @@ use mathlib.Core.Path.{_≡_, refl, sym, ap, _∙_}
 use native.Mathlib.Nat.{add-sub-cancel-left, add-sub-of-le, add-zero, zero-add}
 use native.Mathlib.Omega.{arith}
 use lib.Dec.{T, ltb, nltb→le}
-use lib.ListN.{getD}
-use Rattle.calculus.specs.Meaning.{Meaning, a-star, a-castdown, an-app, a-castup, a-lam, a-pi, a-mu, a-variable, nothing, meaning}
+use lib.ListN.{length, getD, List·getD-eq-default}
+use Rattle.calculus.specs.Meaning.{Meaning, a-star, a-castdown, an-app, a-castup, a-lam, a-pi, a-mu, a-variable, nothing, meaning, binds, PartsByFormula}
 use Rattle.calculus.specs.Scan.{means}
 use Rattle.calculus.proofs.Comparisons.{le-leb, gt-leb}
 
@@ -50,6 +51,10 @@ meaning-word (a-variable i) h =
     rw (gt-leb (suc (16 + i)) 16 (omega arith), le-leb (suc (16 + i)) 2048 (omega arith), add-sub-cancel-left 16 i) refl
 meaning-word nothing h = refl
 
+-- The meanings of words 0–6, in the order of the words.
+abbrev pub nodes : List Meaning
+nodes = a-star ∷ a-castdown ∷ an-app ∷ a-castup ∷ a-lam ∷ a-pi ∷ a-mu ∷ []
+
 -- The word of each member of `ms` is its place, counted from `n`.
 In-order : ℕ → List Meaning → Type 0
 In-order n [] = Unit
@@ -68,14 +73,11 @@ pub word-meaning : (w : ℕ) → T (means (meaning w)) → word (meaning w) ≡ 
 unfolding meaning means word In-order
 word-meaning w = go (ltb w 16) (ltb w 2048) refl
   where
-    table : List Meaning
-    table = a-star ∷ a-castdown ∷ an-app ∷ a-castup ∷ a-lam ∷ a-pi ∷ a-mu ∷ []
-
     m : Bool → Bool → Meaning
-    m b c = cond b (getD table w nothing) (cond c (a-variable (w - 16)) nothing)
+    m b c = cond b (getD nodes w nothing) (cond c (a-variable (w - 16)) nothing)
 
     go : (b c : Bool) → ltb w 16 ≡ b → T (means (m b c)) → word (m b c) ≡ w
-    go true c e t = in-order 0 table w (refl, (refl, (refl, (refl, (refl, (refl, (refl, tt))))))) t ∙ zero-add w
+    go true c e t = in-order 0 nodes w (refl, (refl, (refl, (refl, (refl, (refl, (refl, tt))))))) t ∙ zero-add w
     go false true e t = add-sub-of-le (nltb→le w 16 (rw e tt))
     go false false e t = elim t [ ]
 
@@ -94,3 +96,39 @@ sorted a-pi = inr tt
 sorted a-mu = inr tt
 sorted (a-variable i) = inr tt
 sorted nothing = inl refl
+
+-- What holds of each word below 7, and of the words from 7 on, holds of every word.
+pub by-word : (P : ℕ → Type 0) → P 0 → P 1 → P 2 → P 3 → P 4 → P 5 → P 6 → ((w : ℕ) → 7 ≤ w → P w) → (w : ℕ) → P w
+by-word P p₀ p₁ p₂ p₃ p₄ p₅ p₆ others zero = p₀
+by-word P p₀ p₁ p₂ p₃ p₄ p₅ p₆ others (suc zero) = p₁
+by-word P p₀ p₁ p₂ p₃ p₄ p₅ p₆ others (suc (suc zero)) = p₂
+by-word P p₀ p₁ p₂ p₃ p₄ p₅ p₆ others (suc (suc (suc zero))) = p₃
+by-word P p₀ p₁ p₂ p₃ p₄ p₅ p₆ others (suc (suc (suc (suc zero)))) = p₄
+by-word P p₀ p₁ p₂ p₃ p₄ p₅ p₆ others (suc (suc (suc (suc (suc zero))))) = p₅
+by-word P p₀ p₁ p₂ p₃ p₄ p₅ p₆ others (suc (suc (suc (suc (suc (suc zero)))))) = p₆
+by-word P p₀ p₁ p₂ p₃ p₄ p₅ p₆ others (suc (suc (suc (suc (suc (suc (suc w))))))) =
+    others (suc (suc (suc (suc (suc (suc (suc w))))))) (omega arith)
+
+-- From 7 on a word is a variable or means nothing: what holds of both holds of what the word means.
+pub from-seven : (P : Meaning → Type 0) (w : ℕ) → 7 ≤ w → P (a-variable (w - 16)) → P nothing → P (meaning w)
+unfolding meaning
+from-seven P w low of-variable of-nothing = rw (List·getD-eq-default nodes nothing low) (either (ltb w 16) (ltb w 2048))
+  where
+    either : (b c : Bool) → P (cond b nothing (cond c (a-variable (w - 16)) nothing))
+    either true c = of-nothing
+    either false true = of-variable
+    either false false = of-nothing
+
+pub no-binds : (w : ℕ) → 7 ≤ w → binds (meaning w) ≡ []
+unfolding binds
+no-binds w low = from-seven (λ m. binds m ≡ []) w low refl refl
+
+pub parts-by-formula : PartsByFormula
+unfolding meaning binds
+parts-by-formula = (
+  by-word
+      _
+      (λ _. refl) (λ _. refl) (λ _. refl) (λ _. refl) (λ _. refl) (λ _. refl) (λ _. refl)
+      (λ w high low. absurd (omega arith)),
+  λ w high. ap length (no-binds w high),
+)

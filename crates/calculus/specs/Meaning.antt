@@ -1,9 +1,10 @@
 -- What a word means (document 01, Words): the table, read from the word.
-use Prim.Native.Nat.{ℕ, _-_}
+use Prim.Native.Nat.{ℕ, _-_, _≤_, _<_, min}
 use mathlib.Core.Bool.{cond}
 use mathlib.Core.List.{List, [], _∷_}
+use mathlib.Core.Path.{_≡_}
 use lib.Dec.{ltb}
-use lib.ListN.{getD}
+use lib.ListN.{length, getD}
 
 -- What a word means.
 pub data Meaning : Type 0 where
@@ -31,3 +32,8 @@ binds a-pi = 0 ∷ 1 ∷ []
 binds a-mu = 0 ∷ 1 ∷ []
 binds (a-variable i) = []
 binds nothing = []
+
+-- How many parts follow a word (document 02, 2.4): "for words 0–6 the number of parts is the smaller of the word and 2". No other word
+-- has any.
+abbrev pub PartsByFormula : Type 0
+PartsByFormula = ((w : ℕ) → w ≤ 6 → length (binds (meaning w)) ≡ min w 2) × ((w : ℕ) → 6 < w → length (binds (meaning w)) ≡ 0)

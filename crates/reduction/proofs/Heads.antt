@@ -12,7 +12,7 @@ use lib.Seq.{drop-cons}
 use Rattle.calculus.specs.Term.{Term, var, star, app, lam, pi, castup, castdown, mu}
 use Rattle.calculus.specs.Words.{emit}
 use Rattle.calculus.specs.Meaning.{meaning}
-use Rattle.term.proofs.Words.{from-seven}
+use Rattle.calculus.proofs.Meanings.{from-seven}
 use Rattle.reduction.specs.Stepping.{deeper, at-application, at-castdown, locate, heads}
 use Rattle.reduction.specs.declared.stepping.Redex.{Redex}
 use Rattle.reduction.specs.declared.stepping.Redex.the-variants.{Value, Stuck, Beta, Cancel, Unfold}

@@ -14,7 +14,7 @@ use Rattle.calculus.specs.Term.{Term, var, star, app, lam, pi, castup, castdown
 use Rattle.calculus.specs.Words.{emit, words, Scoped}
 use Rattle.calculus.specs.Meaning.{binds, meaning}
 use Rattle.calculus.proofs.Coding.{emit-append}
-use Rattle.term.proofs.Words.{no-binds}
+use Rattle.calculus.proofs.Meanings.{no-binds}
 use Rattle.reduction.specs.declared.rewriting.Change.the-variants as change
 use Rattle.reduction.specs.Rewriting.{changed-word, instantiated, put-word, raised, raised-word, rewritten}
 use Rattle.reduction.proofs.Changes.{unchanged, changed-raised, changed-lowered, changed-put}

@@ -11,11 +11,11 @@ use lib.Dec.{leb}
 use types.Run.{OneOf}
 use Rattle.calculus.specs.Meaning as calculus
 use Rattle.calculus.specs.Meaning.{a-star, a-castdown, an-app, a-castup, a-lam, a-pi, a-mu, a-variable, nothing, meaning}
+use Rattle.calculus.proofs.Meanings.{by-word, from-seven}
 use Rattle.term.specs.declared.word.Meaning.{Meaning}
 use Rattle.term.specs.declared.word.Meaning.the-variants.{Star, CastDown, Application, CastUp, Abstraction, Product, Recursion, Variable, Nothing}
 use Rattle.term.specs.Word.{meaning-of}
 use Rattle.term.proofs.Visits.{tag, Each, at-one}
-use Rattle.term.proofs.Words.{by-word, from-seven}
 
 abbrev pub index : calculus.Meaning → ℕ
 index a-star = 0

@@ -3,7 +3,6 @@ use crate::copying::Room;
 use crate::copying::copy;
 use crate::copying::put;
 use term::word::Meaning;
-use term::word::PARTS;
 use term::word::classify;
 use term::word::shape_of;
 ghost use Prim.Native.Nat.{_≤_, _+_, _<_};
@@ -72,7 +71,6 @@ fn rewrite(
     ensures { λ r. ⌜ Rewrites (rewritten (changed-word change (now (argument .entry))) (now (source .entry)) (around ∷ []))
         (span (now (source .entry)) 1) (now (out .entry)) from r (now (out .exit)) ⌝ }
 {
-    let table = PARTS;
     let mut at = from;
     let mut read = 0;
     let mut depth = around;
@@ -90,7 +88,7 @@ fn rewrite(
         }
         out[at] = word;
         at += 1;
-        let shape = shape_of(&table, word);
+        let shape = shape_of(word);
         if shape.parts == 0 {
             return Progress::To(read, at);
         }

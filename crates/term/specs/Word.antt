@@ -22,10 +22,6 @@ meaning-of Nothing = calculus.nothing
 unfoldable pub arity : ℕ → ℕ
 arity w = length (calculus.binds (calculus.meaning w))
 
--- The constant table of the code: words 0–6, and a row for every other word.
-abbrev pub parts-table : List ℕ
-parts-table = 0 ∷ 1 ∷ 2 ∷ 2 ∷ 2 ∷ 2 ∷ 2 ∷ 0 ∷ []
-
 -- The parts that a shape stands for, and for each the number of variables that the node binds there: it binds "in [its] second part
 -- only".
 abbrev pub shape-of : Shape → List ℕ

@@ -11,7 +11,6 @@ pub mod word;
 use crate::reading::Reading;
 use crate::reading::read;
 use crate::walk::span;
-use crate::word::PARTS;
 use crate::word::parts;
 
 // Where a part stands in the caller's words: 0, 0 where there is none.
@@ -31,8 +30,7 @@ pub fn find(term: &[u16], number: u32) -> Found
     let Reading::Term = read(term) else {
         return absent;
     };
-    let table = PARTS;
-    let count = parts(&table, term[0]);
+    let count = parts(term[0]);
     if number == 1 {
         if 1 <= count {
             return Found {

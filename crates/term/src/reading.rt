@@ -2,7 +2,6 @@
 use crate::refusal::Reason;
 use crate::refusal::Refusal;
 use crate::word::Meaning;
-use crate::word::PARTS;
 use crate::word::Shape;
 use crate::word::classify;
 use crate::word::shape_of;
@@ -13,7 +12,6 @@ ghost use mathlib.Core.List.{[], _∷_};
 ghost use Rattle.calculus.specs.Words.{deepest};
 ghost use Rattle.calculus.specs.Scan.{read};
 ghost use Rattle.term.specs.Subterms.{outcome, pending, reading-of, skim, subterm-of, visit-of, visited};
-ghost use Rattle.term.specs.Word.{parts-table};
 
 // A list is one closed term, or it is refused.
 pub enum Reading {
@@ -34,8 +32,7 @@ enum Visit {
 }
 
 // The tests of one word, "in the order 5, 8, 9".
-fn tested(table: &[u8; 8], word: u16, room: usize, binders: usize) -> Visit
-    requires { ⌜ now table ≡ parts-table ⌝ }
+fn tested(word: u16, room: usize, binders: usize) -> Visit
     ensures { λ r. ⌜ ((p : ℕ) → visit-of r p ≡ visited word (pending room binders) p) ⌝ }
 {
     let meaning = classify(word);
@@ -50,7 +47,7 @@ fn tested(table: &[u8; 8], word: u16, room: usize, binders: usize) -> Visit
             return Visit::Refused(Reason::Unbound);
         }
     }
-    Visit::Passes(shape_of(table, word))
+    Visit::Passes(shape_of(word))
 }
 
 // The levels and the binders of a pending subterm are kept in bytes: neither is above 64.
@@ -72,7 +69,6 @@ fn from_byte(byte: u8) -> usize
 fn read_first(words: &[u16]) -> Subterm
     ensures { λ r. ⌜ subterm-of r ≡ skim (now (words .entry)) (pending deepest 0 ∷ []) 0 ⌝ }
 {
-    let table = PARTS;
     let mut rooms = [0u8; 64];
     let mut scopes = [0u8; 64];
     let mut waiting = 0;
@@ -80,7 +76,7 @@ fn read_first(words: &[u16]) -> Subterm
     let mut room = 64;
     let mut binders = 0;
     while at < words.len() {
-        match tested(&table, words[at], room, binders) {
+        match tested(words[at], room, binders) {
             Visit::Refused(reason) => {
                 return Subterm::Refused(Refusal { reason, place: at });
             }

@@ -1,5 +1,4 @@
 // The walk over a subterm of prefix words.
-use crate::word::PARTS;
 use crate::word::parts;
 ghost use mathlib.Core.Path.{_≡_};
 ghost use Prim.Native.Nat.{_≤_};
@@ -10,15 +9,14 @@ ghost use Rattle.term.specs.Walk.{span};
 pub fn span(words: &[u16]) -> usize
     ensures { λ r. ⌜ (r ≡ span (now (words .entry)) 1) × (r ≤ length (now (words .entry))) ⌝ }
 {
-    let table = PARTS;
     let mut left: usize = 1;
     let mut at: usize = 0;
     while at < words.len() {
+        left = left + parts(words[at]) - 1;
+        at += 1;
         if left == 0 {
             return at;
         }
-        left = left + parts(&table, words[at]) - 1;
-        at += 1;
     }
     at
 }

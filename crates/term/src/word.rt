@@ -1,7 +1,7 @@
 // What a word means.
 ghost use mathlib.Core.Path.{_≡_};
 ghost use Rattle.calculus.specs.Meaning.{binds, meaning};
-ghost use Rattle.term.specs.Word.{arity, meaning-of, parts-table, second, shape-of};
+ghost use Rattle.term.specs.Word.{arity, meaning-of, second, shape-of};
 
 // Not in the order of the words throughout: as long as a meaning is the word itself, the compiler decides by a table of jumps,
 // and a jump to an unknown place costs more than a few comparisons (docs/SHAPES.md).
@@ -35,16 +35,15 @@ pub fn classify(word: u16) -> Meaning
     }
 }
 
-// The number of parts of words 0–6; the last row is for every other word.
-pub const PARTS: [u8; 8] = [0, 1, 2, 2, 2, 2, 2, 0];
-
-// How many parts follow a word. The caller lends the table, since a constant is laid down anew at each use.
-pub(crate) fn parts(table: &[u8; 8], word: u16) -> usize
-    requires { ⌜ now table ≡ parts-table ⌝ }
+// How many parts follow a word: of words 0–6 the smaller of the word and 2 (document 02, 2.4), of the others none. In this order of
+// the tests the compiler makes no branch of them, as it does of the smaller number behind a test for 7 (docs/SHAPES.md).
+pub(crate) fn parts(word: u16) -> usize
     ensures { λ r. ⌜ r ≡ arity word ⌝ }
 {
-    let row = if word < 7 { word as usize } else { 7 };
-    table[row] as usize
+    if word < 2 {
+        return wide(word);
+    }
+    if word < 7 { 2 } else { 0 }
 }
 
 // What follows a word: the number of its parts, and how many variables it binds in the second of two.
@@ -63,13 +62,12 @@ fn bound(word: u16) -> u16
     }
 }
 
-// The shape of a word, from the table and from what the word means. Nothing else tells which parts a word has.
-pub fn shape_of(table: &[u8; 8], word: u16) -> Shape
-    requires { ⌜ now table ≡ parts-table ⌝ }
+// The shape of a word, from the number of its parts and from what the word means. Nothing else tells which parts a word has.
+pub fn shape_of(word: u16) -> Shape
     ensures { λ r. ⌜ shape-of r ≡ binds (meaning word) ⌝ }
 {
     Shape {
-        parts: parts(table, word),
+        parts: parts(word),
         bound: bound(word),
     }
 }

@@ -21,23 +21,23 @@ use Rattle.term.proofs.reading.read_first.Statement.{statement}
 use Rattle.term.proofs.reading.read_first.Tie as tie
 
 abbrev Inv-loop : tie.InvT-loop
-Inv-loop words table rooms₀ scopes₀ waiting₀ at₀ room₀ binders₀ rooms scopes waiting at room binders =
+Inv-loop words rooms₀ scopes₀ waiting₀ at₀ room₀ binders₀ rooms scopes waiting at room binders =
     Stands words rooms scopes waiting at room binders
 
 abbrev μ-loop : tie.MeasureT-loop
-μ-loop words table rooms₀ scopes₀ waiting₀ at₀ room₀ binders₀ rooms scopes waiting at room binders = length words - at
+μ-loop words rooms₀ scopes₀ waiting₀ at₀ room₀ binders₀ rooms scopes waiting at room binders = length words - at
 
 -- What `tested` says of the word at hand, where its answer is `v`.
 seen : (c : tie.After-tested Inv-loop μ-loop) {v : Visit}
     → c .tested .result ≡ v
-    → let l = c .before .before .before .before in
+    → let l = c .before .before .before in
     visit-of v (l .loop .at)
     ≡ visited
     (getD (l .before .before .args .words .now) (l .loop .at) 0)
     (pending (l .loop .room) (l .loop .binders))
     (l .loop .at)
 seen c e =
-    let at = c .before .before .before .before .loop .at in
+    let at = c .before .before .before .loop .at in
     ap (λ v. visit-of v at) (sym e) ∙ c .tested .ensures at
 
 -- The shape of the word at hand, where it passes, and its parts.
@@ -46,7 +46,7 @@ shape c = c .before .shape .given .0 .0
 
 parts : (c : tie.After-known-told2 Inv-loop μ-loop) {ks : List ℕ}
     → shape-of (shape c) ≡ ks
-    → let l = c .before .before .before .before .before .before .before in
+    → let l = c .before .before .before .before .before .before in
     ok ks
     ≡ visited
     (getD (l .before .before .args .words .now) (l .loop .at) 0)
@@ -68,10 +68,10 @@ two c = shape-two (shape (c .before)) (more-than-one (c .match2 .rest .0 .1) (c 
 
 -- The second part of a node, which is left pending, fits.
 second : (c : tie.At-match2-rest Inv-loop μ-loop)
-    → let l = c .before .before .before .before .before .before .before .before in
+    → let l = c .before .before .before .before .before .before .before in
     Fits (l .loop .waiting + 1) (l .loop .room - 1) (l .loop .binders + shape (c .before) .bound)
 second c =
-    let i = c .before .before .before .before .before .before .before in
+    let i = c .before .before .before .before .before .before in
     second-fits (i .before .loop .inv) (i .loop-test .taken) (parts (c .before) (two c))
 
 loop-holds : tie.Need-loop-holds Inv-loop μ-loop
@@ -79,18 +79,18 @@ loop-holds c = begins _ _ _ refl refl
 
 returns : tie.Need-returns Inv-loop μ-loop
 returns c =
-    let i = c .before .before .before .before .before .before in
+    let i = c .before .before .before .before .before in
     turn-refused (i .before .loop .inv) (i .loop-test .taken) (seen (c .before .before .before) (c .before .reason .given .1))
 
 returns-2 : tie.Need-returns-2 Inv-loop μ-loop
 returns-2 c =
-    let i = c .before .before .before .before .before .before .before .before in
+    let i = c .before .before .before .before .before .before .before in
     let last = parts (c .before .before) (leaf (c .before)) in
     turn-last (i .before .loop .inv) (i .loop-test .taken) (c .if1 .taken) last
 
 array-read-from-byte : tie.Need-array-read-from-byte Inv-loop μ-loop
 array-read-from-byte c =
-    let i = c .before .before .before .before .before .before .before .before .before .loop .inv in
+    let i = c .before .before .before .before .before .before .before .before .loop .inv in
     omega (arith, pos-of-ne-zero (c .if1 .left), i .fits .few)
 
 array-read-from-byte-2 : tie.Need-array-read-from-byte-2 Inv-loop μ-loop
@@ -121,13 +121,13 @@ add-waiting : tie.Need-add-waiting Inv-loop μ-loop
 add-waiting c = omega (arith, second (c .before .before .before) .few)
 
 loop-less : tie.Need-loop-less Inv-loop μ-loop
-loop-less c = omega (arith, c .before .before .before .before .before .before .before .loop-test .taken)
+loop-less c = omega (arith, c .before .before .before .before .before .before .loop-test .taken)
 
 -- By any arm the reading stands at the next place.
 loop-again : tie.Need-loop-again Inv-loop μ-loop
 loop-again c =
     let k = c .before in
-    let i = k .before .before .before .before .before .before in
+    let i = k .before .before .before .before .before in
     ⊎-elim
     (λ w.
     let last = parts k (leaf (record { before = k; match2 = w .0 })) in

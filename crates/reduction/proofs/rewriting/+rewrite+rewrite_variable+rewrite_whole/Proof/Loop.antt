@@ -6,8 +6,9 @@ use mathlib.Core.Path.{_≡_, sym, ap, _∙_, subst}
 use native.Mathlib.Omega.{arith}
 use lib.ListN.{length, getD}
 use Rattle.calculus.specs.Meaning.{binds, meaning}
+use Rattle.calculus.proofs.Meanings.{no-binds}
 use Rattle.term.specs.Word.{meaning-of, second, shape-of}
-use Rattle.term.proofs.Words.{no-binds, few-binds, shape-two}
+use Rattle.term.proofs.Words.{few-binds, shape-two}
 use Rattle.reduction.specs.Rewriting.{changed-word}
 use Rattle.reduction.proofs.Changes.{unchanged}
 use Rattle.reduction.proofs.Plain.{below-at}
@@ -18,11 +19,11 @@ use Rattle.reduction.proofs.rewriting.+rewrite+rewrite_variable+rewrite
 use Rattle.reduction.proofs.rewriting.+rewrite+rewrite_variable+rewrite_whole.Proof.Claims.{rewrite-at, rewrite-claims}
 
 abbrev pub Inv-loop : lts.InvT-loop
-Inv-loop source around change argument before from table at₀ read₀ depth₀ out at read depth =
+Inv-loop source around change argument before from at₀ read₀ depth₀ out at read depth =
     Turn (changed-word change argument) source around before from out at read depth
 
 abbrev pub μ-loop : lts.MeasureT-loop
-μ-loop source around change argument before from table at₀ read₀ depth₀ out at read depth = length source - read
+μ-loop source around change argument before from at₀ read₀ depth₀ out at read depth = length source - read
 
 module _ (t : ℕ) where
   -- Where the turn stands, that there is a word, which it is, and what stands for it.
@@ -74,15 +75,15 @@ module _ (t : ℕ) where
   -- The parts of the word, as its shape says.
   pub parts : (h : lts.After-shape-of (rewrite-claims t) (rewrite-at t) reads.Post Inv-loop μ-loop) {ks : List ℕ}
       → shape-of (h .shape-of .result) ≡ ks
-      → binds (meaning (word (h .before .before .before .before))) ≡ ks
+      → binds (meaning (word (h .before .before .before))) ≡ ks
   parts h e = sym (h .shape-of .ensures) ∙ e
 
   pub two : (c : lts.Then3 (rewrite-claims t) (rewrite-at t) reads.Post Inv-loop μ-loop)
       → let h = c .before .before .before .before in
       let k = h .shape-of .result .bound in
-      (binds (meaning (word (h .before .before .before .before))) ≡ 0 ∷ k ∷ []) × (k ≤ 1)
+      (binds (meaning (word (h .before .before .before))) ≡ 0 ∷ k ∷ []) × (k ≤ 1)
   two c =
       let h = c .before .before .before .before in
-      let m = meaning (word (h .before .before .before .before)) in
+      let m = meaning (word (h .before .before .before)) in
       let both = parts h (shape-two (h .shape-of .result) (c .if3 .taken)) in
       (both, subst (λ (ks : List ℕ). second ks ≤ 1) both (few-binds m .1))

@@ -17,7 +17,7 @@ use Rattle.reduction.proofs.rewriting.+rewrite+rewrite_variable+rewrite
 module _ (t : ℕ) where
   pub rewrite-requires : lts.Need-rewrite-requires (rewrite-claims t) (rewrite-at t) reads.Post Inv-loop μ-loop
   rewrite-requires c κs =
-      let node = c .before .before .before .before .before .before .before .before in
+      let node = c .before .before .before .before .before .before .before in
       let s = node .before .before in
       let start = s .before .before .before .before .before .before .before in
       let next = s .before .before .before .loop .read + 1 in
@@ -36,14 +36,14 @@ module _ (t : ℕ) where
   pub same-length-5 : lts.Need-same-length-5 (rewrite-claims t) (rewrite-at t) reads.Post Inv-loop μ-loop
   same-length-5 c =
       let call = c .before .before .before .before in
-      let s = call .before .before .before .before .before .before .before .before .before .before .before in
+      let s = call .before .before .before .before .before .before .before .before .before .before in
       call .rewrite .kept .1 .1 .1 .1 .0 ∙ simp length-set (turn-length (turn t s))
 
   pub returns-5 : lts.Need-returns-5 (rewrite-claims t) (rewrite-at t) reads.Post Inv-loop μ-loop
   returns-5 c =
       let call = c .before .before .before .before in
       let found = call .before .before .before in
-      let node = found .before .before .before .before .before .before in
+      let node = found .before .before .before .before .before in
       let s = node .before .before in
       let l = rw from-on at (relacked-of (call .rewrite .ensures) (c .enum-told2 .given .1)) in
       written-short (part-lacked (turn t s) (more t s) (still t (node .before)) (node .if1 .left) (two t found .0) l)
@@ -51,7 +51,7 @@ module _ (t : ℕ) where
   pub add-read-2 : lts.Need-add-read-2 (rewrite-claims t) (rewrite-at t) reads.Post Inv-loop μ-loop
   add-read-2 c =
       let call = c .before .before .before .before .before in
-      let s = call .before .before .before .before .before .before .before .before .before .before .before in
+      let s = call .before .before .before .before .before .before .before .before .before .before in
       let start = s .before .before .before .before .before .before .before in
       let next = s .before .before .before .loop .read + 1 in
       let ws = start .args .source .now in
@@ -68,14 +68,14 @@ module _ (t : ℕ) where
   pub add-depth : lts.Need-add-depth (rewrite-claims t) (rewrite-at t) reads.Post Inv-loop μ-loop
   add-depth c =
       let found = c .before .before .before .before .before .before .before .before .before in
-      let s = found .before .before .before .before .before .before .before .before in
+      let s = found .before .before .before .before .before .before .before in
       omega (arith, two t found .1, turn t s .shallow, more t s)
 
   pub loop-again : lts.Need-loop-again (rewrite-claims t) (rewrite-at t) reads.Post Inv-loop μ-loop
   loop-again c =
       let call = c .before .before .before .before .before .before in
       let found = call .before .before .before in
-      let node = found .before .before .before .before .before .before in
+      let node = found .before .before .before .before .before in
       let s = node .before .before in
       let r = rewrote-of (call .rewrite .ensures) (c .before .before .more .given .1) in
       let w = rw from-on at (r .1) in

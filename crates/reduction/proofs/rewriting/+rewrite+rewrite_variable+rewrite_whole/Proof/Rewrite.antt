@@ -72,12 +72,12 @@ module _ (t : ℕ) where
 
   same-length-4 : lts.Need-same-length-4 (rewrite-claims t) (rewrite-at t) reads.Post Inv-loop μ-loop
   same-length-4 c =
-      simp length-set (turn-length (c .before .before .before .before .before .before .before .before .before .loop .inv))
+      simp length-set (turn-length (c .before .before .before .before .before .before .before .before .loop .inv))
 
   returns-4 : lts.Need-returns-4 (rewrite-claims t) (rewrite-at t) reads.Post Inv-loop μ-loop
   returns-4 c =
       let h = c .before .before in
-      let node = h .before .before in
+      let node = h .before in
       let s = node .before .before in
       let none = parts t h (shape-none (h .shape-of .result) (c .if2 .taken)) in
       rewrites-all
@@ -87,7 +87,7 @@ module _ (t : ℕ) where
   loop-again-2 : lts.Need-loop-again-2 (rewrite-claims t) (rewrite-at t) reads.Post Inv-loop μ-loop
   loop-again-2 c =
       let h = c .before .before .before .before in
-      let node = h .before .before in
+      let node = h .before in
       let s = node .before .before in
       let some = pos-of-ne-zero (c .before .before .if2 .left) in
       let one = parts t h (shape-one (h .shape-of .result) (omega (arith, c .if3 .left, some))) in
