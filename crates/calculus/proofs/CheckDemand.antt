@@ -29,7 +29,7 @@ use Rattle.calculus.proofs.Inference.{one-of-two}
 
 module _ (ws : List ℕ) (L : ℕ) (W O : List ℕ) where
   -- Past the three tests of the call, the verdict is of the words alone.
-  admitted : Allowed L → check-room L ≤ length W → L ≤ length O → verdict ws L W O ≡ (read ws >>= λ t. infer L [] 0 t)
+  pub admitted : Allowed L → check-room L ≤ length W → L ≤ length O → verdict ws L W O ≡ (read ws >>= λ t. infer L [] 0 t)
   unfolding verdict require _>>_ _>>=_
   admitted (h, k) w o = rw (le-leb 1 L h, le-leb L largest-limit k, le-leb (check-room L) (length W) w, le-leb L (length O) o) refl
 

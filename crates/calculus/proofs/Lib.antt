@@ -24,10 +24,12 @@ pub mod Within
 pub mod Testing
 pub mod Completeness
 pub mod Inference
+pub mod Limits
 pub mod Refusals
 pub mod Courses
 pub mod CheckDemand
 pub mod Acceptance
+pub mod MoreLimit
 pub mod RunDemand
 pub mod SafetyDemand
 pub mod NumberInjective

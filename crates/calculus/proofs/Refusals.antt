@@ -3,15 +3,15 @@
 use Prim.Native.Nat.{ℕ, _+_}
 use mathlib.Core.Logic.{_≢_}
 use mathlib.Core.Path.{refl, _∙_, subst}
-use native.Mathlib.Omega.{arith}
-use lib.Dec.{lit≤}
 use Rattle.calculus.specs.Term.{Term, size}
-use Rattle.calculus.specs.Answer.{Reason, number, over-limit}
+use Rattle.calculus.specs.Answer.{Reason, over-limit}
 use Rattle.calculus.specs.Rules.{Context, CanStep, _⊢_⦂_, t-app, t-lam, t-pi, t-castup, t-castdown, t-mu}
 use Rattle.calculus.specs.Failing.{Fails, star-over, var-over, app-function, app-not-product, app-argument, app-mismatch, app-over, lam-annotation, lam-not-star, lam-body, lam-over, pi-domain, pi-domain-not-star, pi-codomain, pi-codomain-not-star, pi-over, castup-annotation, castup-not-star, castup-body, castup-rests, castup-step-over, castup-mismatch, castup-over, castdown-body, castdown-rests, castdown-over, mu-annotation, mu-not-star, mu-body, mu-mismatch, mu-over}
-use Rattle.calculus.proofs.Says.{By}
+use Rattle.calculus.proofs.Says.{of-refused, By}
 use Rattle.calculus.proofs.Reduction.{determinism}
 use Rattle.calculus.proofs.Types.{uniqueness}
+use Rattle.calculus.proofs.Completeness.{refused-complete}
+use Rattle.calculus.proofs.Limits.{infer-numbered}
 
 pub no-type : {L : ℕ} {Γ : Context} {p q : ℕ} {e τ : Term} {r : Reason} → Fails L Γ p e r q → r ≢ over-limit → Γ ⊢ e ⦂ τ → ⊥
 no-type (star-over h) n d = n refl
@@ -47,35 +47,4 @@ no-type (mu-mismatch ha he m) n (t-mu de da) = m (uniqueness (he .typed) de)
 no-type (mu-over ha he h) n d = n refl
 
 pub fails-refusal : {L : ℕ} {Γ : Context} {p q : ℕ} {e : Term} {r : Reason} → Fails L Γ p e r q → By 10 16 (p + size e) r q
-unfolding number size
-fails-refusal (star-over h) = (lit≤ tt, lit≤ tt, omega arith)
-fails-refusal (var-over v h) = (lit≤ tt, lit≤ tt, omega arith)
-fails-refusal (app-function x) = let (l, u, w) = fails-refusal x in (l, u, omega arith)
-fails-refusal (app-not-product hf m) = (lit≤ tt, lit≤ tt, omega arith)
-fails-refusal (app-argument hf x) = let (l, u, w) = fails-refusal x in (l, u, omega arith)
-fails-refusal (app-mismatch hf hu m) = (lit≤ tt, lit≤ tt, omega arith)
-fails-refusal (app-over hf hu h) = (lit≤ tt, lit≤ tt, omega arith)
-fails-refusal (lam-annotation x) = let (l, u, w) = fails-refusal x in (l, u, omega arith)
-fails-refusal (lam-not-star ha m) = (lit≤ tt, lit≤ tt, omega arith)
-fails-refusal (lam-body ha x) = let (l, u, w) = fails-refusal x in (l, u, omega arith)
-fails-refusal (lam-over ha he h) = (lit≤ tt, lit≤ tt, omega arith)
-fails-refusal (pi-domain x) = let (l, u, w) = fails-refusal x in (l, u, omega arith)
-fails-refusal (pi-domain-not-star ha m) = (lit≤ tt, lit≤ tt, omega arith)
-fails-refusal (pi-codomain ha x) = let (l, u, w) = fails-refusal x in (l, u, omega arith)
-fails-refusal (pi-codomain-not-star ha hb m) = (lit≤ tt, lit≤ tt, omega arith)
-fails-refusal (pi-over ha hb h) = (lit≤ tt, lit≤ tt, omega arith)
-fails-refusal (castup-annotation x) = let (l, u, w) = fails-refusal x in (l, u, omega arith)
-fails-refusal (castup-not-star ha m) = (lit≤ tt, lit≤ tt, omega arith)
-fails-refusal (castup-body ha x) = let (l, u, w) = fails-refusal x in (l, u, omega arith)
-fails-refusal (castup-rests ha he m) = (lit≤ tt, lit≤ tt, omega arith)
-fails-refusal (castup-step-over ha he s h) = (lit≤ tt, lit≤ tt, omega arith)
-fails-refusal (castup-mismatch ha he s h m) = (lit≤ tt, lit≤ tt, omega arith)
-fails-refusal (castup-over ha he s h) = (lit≤ tt, lit≤ tt, omega arith)
-fails-refusal (castdown-body x) = let (l, u, w) = fails-refusal x in (l, u, omega arith)
-fails-refusal (castdown-rests he m) = (lit≤ tt, lit≤ tt, omega arith)
-fails-refusal (castdown-over he s h) = (lit≤ tt, lit≤ tt, omega arith)
-fails-refusal (mu-annotation x) = let (l, u, w) = fails-refusal x in (l, u, omega arith)
-fails-refusal (mu-not-star ha m) = (lit≤ tt, lit≤ tt, omega arith)
-fails-refusal (mu-body ha x) = let (l, u, w) = fails-refusal x in (l, u, omega arith)
-fails-refusal (mu-mismatch ha he m) = (lit≤ tt, lit≤ tt, omega arith)
-fails-refusal (mu-over ha he h) = (lit≤ tt, lit≤ tt, omega arith)
+fails-refusal {L} {Γ} {p} {e} f = of-refused (rw (refused-complete f) at (infer-numbered L Γ p e))

@@ -19,6 +19,7 @@ use Rattle.calculus.specs.Outcomes.{largest-limit}
 use Rattle.calculus.specs.Checks.{Allowed, untyped, typed}
 use Rattle.calculus.specs.Runs.{ended}
 use Rattle.calculus.specs.Starred.{Row, types, refuses, ends, spins, Claim, Claims, starred, StarredTerms}
+use Rattle.calculus.specs.MoreLimit.{examples, LimitExamples}
 use Rattle.calculus.proofs.Comparisons.{both}
 use Rattle.calculus.proofs.Coding.{words-length, words-injective}
 use Rattle.calculus.proofs.ReadBack.{read-sound}
@@ -219,6 +220,12 @@ rows-claim (r ∷ rs) h =
     let (i, j) = both (row-holds r) (rows-hold rs) h in
     (row-claim r i, rows-claim rs j)
 
-pub starred-terms : StarredTerms
+rows : Claims starred × Claims examples
 unfolding rows-hold row-holds same-words on-answer refused-by on-next allowed ended-by read scan test means meaning bound binds node node₁ node₂ below the-first _>>=_ _>>_ require number infer annotation measure product stepped same decide size raise substitute step under applied cancelled words emit run-from advance done one-more end-number
-starred-terms = rows-claim starred tt
+rows = (rows-claim starred tt, rows-claim examples tt)
+
+pub starred-terms : StarredTerms
+starred-terms = rows .0
+
+pub limit-examples : LimitExamples
+limit-examples = rows .1

@@ -18,3 +18,4 @@ pub mod Checks
 pub mod Runs
 pub mod Safety
 pub mod Starred
+pub mod MoreLimit

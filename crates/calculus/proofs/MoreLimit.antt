@@ -1,0 +1,170 @@
+-- More limit, same verdict. Past the three tests of the call, a check reads the words, which no limit changes, and infers, so it keeps
+-- what inference keeps. By the rules nothing need be inferred: the same derivations hold, since what fits L fits a larger limit, and no
+-- failing test but that of 16 asks for the limit.
+use Prim.Native.Nat.{ℕ, _≤_}
+use mathlib.Core.List.{List, []}
+use mathlib.Core.Logic.{_≢_, _⊎_, inl, inr, Dec·and}
+use mathlib.Core.Path.{_≡_, refl, sym, ap, ap₂, _∙_}
+use native.Mathlib.Decide.{decLe}
+use native.Mathlib.Nat.{le-refl, le-trans}
+use native.Mathlib.Omega.{arith}
+use lib.Dec.{lit≤}
+use lib.ListN.{length, take}
+use Rattle.calculus.specs.Term.{Term, size}
+use Rattle.calculus.specs.Answer.{Answer, ok, refused, Reason, _>>=_, number, over-limit}
+use Rattle.calculus.specs.Rules.{Context}
+use Rattle.calculus.specs.Limit.{_⊢⟨_⟩_⦂_}
+use Rattle.calculus.specs.Failing.{Fails, star-over, var-over, app-function, app-not-product, app-argument, app-mismatch, app-over, lam-annotation, lam-not-star, lam-body, lam-over, pi-domain, pi-domain-not-star, pi-codomain, pi-codomain-not-star, pi-over, castup-annotation, castup-not-star, castup-body, castup-rests, castup-step-over, castup-mismatch, castup-over, castdown-body, castdown-rests, castdown-over, mu-annotation, mu-not-star, mu-body, mu-mismatch, mu-over}
+use Rattle.calculus.specs.Scan.{read}
+use Rattle.calculus.specs.Infer.{infer}
+use Rattle.calculus.specs.Outcomes.{largest-limit, check-room, checked, check}
+use Rattle.calculus.specs.Checks.{Allowed, limit-refused, work-refused, output-refused, SameType}
+use Rattle.calculus.specs.MoreLimit.{Admitted, Settled, told, TellsAll, MoreLimit, SameOrOver, LessLimit, MoreLimitByRules, Judged, OverLimitBecomes}
+use Rattle.calculus.proofs.Says.{says-ok, says-refused, ok-not-refused}
+use Rattle.calculus.proofs.Limits.{Numbered, Keeps, kept, sixteen, infer-keeps, infer-numbered}
+use Rattle.calculus.proofs.ReadBack.{refused-misread, misread-numbers}
+use Rattle.calculus.proofs.CheckDemand.{admitted, check-answer}
+use Rattle.calculus.proofs.Acceptance.{front-of-begun}
+
+-- A check is admitted, or refused by one of 1–3.
+abbrev Admission : List ℕ → ℕ → List ℕ → List ℕ → Type 0
+Admission ws L W O = Admitted L W O ⊎ ((r : Reason) × (p : ℕ) × (check ws L W O .answer ≡ refused r p) × (number r ≤ 3))
+
+admission : (ws : List ℕ) (L : ℕ) (W O : List ℕ) → Admission ws L W O
+unfolding number
+admission ws L W O = on (Dec·and (decLe 1 L) (decLe L largest-limit)) (decLe (check-room L) (length W)) (decLe L (length O))
+  where
+    on : Dec (Allowed L) → Dec (check-room L ≤ length W) → Dec (L ≤ length O) → Admission ws L W O
+    on (yes a) (yes w) (yes o) = inl (a, w, o)
+    on (yes a) (yes w) (no o) = inr (_, _, ap (λ c. c .answer) (check-answer ws L W O (output-refused a w (omega arith))), lit≤ tt)
+    on (yes a) (no w) o = inr (_, _, ap (λ c. c .answer) (check-answer ws L W O (work-refused a (omega arith))), lit≤ tt)
+    on (no n) w o = inr (_, _, ap (λ c. c .answer) (check-answer ws L W O (limit-refused n)), lit≤ tt)
+
+admits : (ws : List ℕ) (L : ℕ) (W O : List ℕ) → Settled (check ws L W O .answer) → Admitted L W O
+unfolding Settled
+admits ws L W O s = on (admission ws L W O)
+  where
+    on : Admission ws L W O → Admitted L W O
+    on (inl a) = a
+    on (inr (r, p, e, u)) = absurd (omega (arith, (rw e at s) .0, u))
+
+pub tells-all : TellsAll
+unfolding told
+tells-all c c′ e = on (c .answer) (c′ .answer) e
+  where
+    on : (a a′ : Answer ℕ)
+        → told (record { answer = a; work = c .work; output = c .output }) ≡ told (record { answer = a′; work = c′ .work; output = c′ .output })
+        → (a ≡ a′) × ((n : ℕ) → a ≡ ok n → take n (c .output) ≡ take n (c′ .output))
+    on (ok m) (ok m′) e =
+        let pair : _≡_ {A = ℕ × List ℕ} (m, take m (c .output)) (m′, take m′ (c′ .output)) = cc e in
+        (ap (λ x. ok (x .0)) pair, λ n f. cc (f, ap (λ x. x .0) pair, ap (λ x. x .1) pair))
+    on (ok m) (refused r p) e = absurd (ok-not-refused e)
+    on (refused r p) (ok m) e = absurd (ok-not-refused (sym e))
+    on (refused r p) (refused s q) e = (ap₂ refused (cc e) (cc e), λ n f. absurd (ok-not-refused (sym f)))
+
+pub less-limit : LessLimit
+unfolding check checked told _>>=_
+less-limit ws L L′ W W′ O O′ more (a, w, o) (a′, w′, o′) = rw (admitted ws L W O a w o, admitted ws L′ W′ O′ a′ w′ o′) (on (read ws))
+  where
+    same : (x : Answer Term) → told (checked L W O x) ≡ told (checked L′ W′ O′ x)
+    same (ok τ) = ap (λ ws. ok (size τ, ws)) (front-of-begun τ O ∙ sym (front-of-begun τ O′))
+    same (refused r p) = refl
+
+    inferred : {n : ℕ} {x y : Answer Term} → Keeps n x y → SameOrOver (checked L W O x) (checked L′ W′ O′ y)
+    inferred (kept {x} h) = inl (same x)
+    inferred (sixteen {p} h) = inr (p, refl)
+
+    on : (x : Answer Term) → SameOrOver (checked L W O (x >>= λ t. infer L [] 0 t)) (checked L′ W′ O′ (x >>= λ t. infer L′ [] 0 t))
+    on (ok t) = inferred (infer-keeps more [] 0 t (le-refl _))
+    on (refused r p) = inl (same (refused r p))
+
+pub more-limit : MoreLimit
+unfolding Settled number
+more-limit ws L L′ W W′ O O′ s more a′ = on (less-limit ws L L′ W W′ O O′ more (admits ws L W O s) a′)
+  where
+    on : SameOrOver (check ws L W O) (check ws L′ W′ O′) → told (check ws L′ W′ O′) ≡ told (check ws L W O)
+    on (inl e) = sym e
+    on (inr (p, e)) = absurd ((rw e at s) .1 refl)
+
+pub same-type : SameType
+unfolding Settled
+same-type ws L L′ W W′ O O′ n n′ e e′ =
+    let (f, g) = tells-all (check ws L W O) (check ws L′ W′ O′) (on (decLe L L′)) in
+    let same : n ≡ n′ = cc (e, e′, f) in
+    (same, g n e ∙ ap (λ k. take k (check ws L′ W′ O′ .output)) same)
+  where
+    settled : Settled (check ws L W O .answer)
+    settled = rw e tt
+
+    settled′ : Settled (check ws L′ W′ O′ .answer)
+    settled′ = rw e′ tt
+
+    on : Dec (L ≤ L′) → told (check ws L W O) ≡ told (check ws L′ W′ O′)
+    on (yes h) = sym (more-limit ws L L′ W W′ O O′ settled h (admits ws L′ W′ O′ settled′))
+    on (no h) = more-limit ws L′ L W′ W O′ O settled′ (omega arith) (admits ws L W O settled)
+
+module _ {L L′ : ℕ} (more : L ≤ L′) where
+  within : {Γ : Context} {e τ : Term} → Γ ⊢⟨ L ⟩ e ⦂ τ → Γ ⊢⟨ L′ ⟩ e ⦂ τ
+  within d = record { typed = d .typed; fits = λ σ m. le-trans (d .fits σ m) more }
+
+  fails : {Γ : Context} {p q : ℕ} {e : Term} {r : Reason} → r ≢ over-limit → Fails L Γ p e r q → Fails L′ Γ p e r q
+  fails n (star-over h) = absurd (n refl)
+  fails n (var-over v h) = absurd (n refl)
+  fails n (app-function x) = app-function (fails n x)
+  fails n (app-not-product hf m) = app-not-product (within hf) m
+  fails n (app-argument hf x) = app-argument (within hf) (fails n x)
+  fails n (app-mismatch hf hu m) = app-mismatch (within hf) (within hu) m
+  fails n (app-over hf hu h) = absurd (n refl)
+  fails n (lam-annotation x) = lam-annotation (fails n x)
+  fails n (lam-not-star ha m) = lam-not-star (within ha) m
+  fails n (lam-body ha x) = lam-body (within ha) (fails n x)
+  fails n (lam-over ha he h) = absurd (n refl)
+  fails n (pi-domain x) = pi-domain (fails n x)
+  fails n (pi-domain-not-star ha m) = pi-domain-not-star (within ha) m
+  fails n (pi-codomain ha x) = pi-codomain (within ha) (fails n x)
+  fails n (pi-codomain-not-star ha hb m) = pi-codomain-not-star (within ha) (within hb) m
+  fails n (pi-over ha hb h) = absurd (n refl)
+  fails n (castup-annotation x) = castup-annotation (fails n x)
+  fails n (castup-not-star ha m) = castup-not-star (within ha) m
+  fails n (castup-body ha x) = castup-body (within ha) (fails n x)
+  fails n (castup-rests ha he m) = castup-rests (within ha) (within he) m
+  fails n (castup-step-over ha he s h) = absurd (n refl)
+  fails n (castup-mismatch ha he s h m) = castup-mismatch (within ha) (within he) s (le-trans h more) m
+  fails n (castup-over ha he s h) = absurd (n refl)
+  fails n (castdown-body x) = castdown-body (fails n x)
+  fails n (castdown-rests he m) = castdown-rests (within he) m
+  fails n (castdown-over he s h) = absurd (n refl)
+  fails n (mu-annotation x) = mu-annotation (fails n x)
+  fails n (mu-not-star ha m) = mu-not-star (within ha) m
+  fails n (mu-body ha x) = mu-body (within ha) (fails n x)
+  fails n (mu-mismatch ha he m) = mu-mismatch (within ha) (within he) m
+  fails n (mu-over ha he h) = absurd (n refl)
+
+pub more-limit-by-rules : MoreLimitByRules
+more-limit-by-rules L L′ Γ e more = (λ τ. within more, λ p q r n. fails more n)
+
+-- A refusal by one of 1–9 is none by 16.
+not-sixteen : {a : Answer ℕ} {r : Reason} {p q : ℕ} → a ≡ refused r q → number r ≤ 9 → a ≡ refused over-limit p → ⊥
+unfolding number
+not-sixteen {r} e h e′ = let same : r ≡ over-limit = cc (e, e′) in omega (arith, rw same at h)
+
+-- What inference answers to a term, as an answer of the check.
+judged : {n : ℕ} {x : Answer Term} (L : ℕ) (W O : List ℕ) → Numbered n x → Judged (checked L W O x .answer)
+unfolding checked Judged
+judged L W O (says-ok _) = tt
+judged L W O (says-refused (l, u, _)) = (l, u)
+
+pub over-limit-becomes : OverLimitBecomes
+unfolding check checked number _>>=_
+over-limit-becomes ws L L′ W W′ O O′ p e (a′, w′, o′) = by (admission ws L W O)
+  where
+    at : (x : Answer Term)
+        → read ws ≡ x
+        → checked L W O (x >>= λ t. infer L [] 0 t) .answer ≡ refused over-limit p
+        → Judged (checked L′ W′ O′ (x >>= λ t. infer L′ [] 0 t) .answer)
+    at (ok t) m e = judged L′ W′ O′ (infer-numbered L′ [] 0 t)
+    at (refused r q) m e = absurd (not-sixteen refl (misread-numbers (refused-misread ws r q m) .1) e)
+
+    by : Admission ws L W O → Judged (check ws L′ W′ O′ .answer)
+    by (inl (a, w, o)) = rw (admitted ws L′ W′ O′ a′ w′ o′) (at (read ws) refl (rw (admitted ws L W O a w o) at e))
+    by (inr (r, q, e′, u)) = absurd (not-sixteen e′ (omega (arith, u)) e)
