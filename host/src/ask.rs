@@ -115,7 +115,8 @@ fn least(mut low: u32, mut high: u32, mut over: impl FnMut(u32) -> bool) -> u32 
 }
 
 /// The least limit at which a check of the term does not answer 16 (a type longer than the limit); none if there is no such limit.
-/// Above it the answer stays the same, since a larger limit changes no other answer.
+/// Above it the answer stays the same, and below it is 16: a larger limit keeps every answer but 16, which is proved (`MoreLimit` and
+/// `LessLimit` in `crates/calculus/specs/MoreLimit.antt`).
 ///
 /// ```
 /// use feguavy::least_limit;

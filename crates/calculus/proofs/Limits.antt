@@ -21,18 +21,18 @@ use Rattle.calculus.proofs.Testing.{fitting, over}
 abbrev pub Numbered : {A : Type 0} → ℕ → Answer A → Type 0
 Numbered n x = Says (λ _. Unit {0}) (By 10 16 n) x
 
--- `Keeps n x y`: the answer `x` at a limit is `y` at a larger one, unless it is a refusal by 16.
+-- `Keeps n x y`: the answer `x` at a limit is the answer `y` at a larger one, or it is a refusal by 16, and `y` any answer of typing.
 pub data Keeps {A : Type 0} (n : ℕ) : Answer A → Answer A → Type 0 where
   kept : {x : Answer A} → Numbered n x → Keeps n x x
   sixteen : {p : ℕ} {y : Answer A} → Numbered n y → Keeps n (refused over-limit p) y
 
 -- The answer at the larger limit.
-pub larger : {A : Type 0} {n : ℕ} {x y : Answer A} → Keeps n x y → Numbered n y
+larger : {A : Type 0} {n : ℕ} {x y : Answer A} → Keeps n x y → Numbered n y
 larger (kept h) = h
 larger (sixteen h) = h
 
 -- One thing after another.
-pub then : {A B : Type 0} {n : ℕ} {x y : Answer A} {f g : A → Answer B}
+then : {A B : Type 0} {n : ℕ} {x y : Answer A} {f g : A → Answer B}
     → Keeps n x y
     → ((a : A) → Keeps n (f a) (g a))
     → Keeps n (x >>= f) (y >>= g)
