@@ -5,7 +5,7 @@ use Prim.Native.Nat.{ℕ, _≤_}
 use mathlib.Core.List.{List, []}
 use mathlib.Core.Logic.{_≢_, _⊎_, inl, inr, Dec·and}
 use mathlib.Core.Path.{_≡_, refl, sym, ap, ap₂, _∙_}
-use native.Mathlib.Decide.{decLe}
+use native.Mathlib.Decide.{ℕ-discrete, decLe}
 use native.Mathlib.Nat.{le-refl, le-trans}
 use native.Mathlib.Omega.{arith}
 use lib.Dec.{lit≤}
@@ -19,10 +19,11 @@ use Rattle.calculus.specs.Scan.{read}
 use Rattle.calculus.specs.Infer.{infer}
 use Rattle.calculus.specs.Outcomes.{largest-limit, check-room, checked, check}
 use Rattle.calculus.specs.Checks.{Allowed, limit-refused, work-refused, output-refused, SameType}
-use Rattle.calculus.specs.MoreLimit.{Admitted, Settled, told, TellsAll, MoreLimit, SameOrOver, LessLimit, MoreLimitByRules, Judged, OverLimitBecomes}
+use Rattle.calculus.specs.MoreLimit.{Settled, told, Admitted, MoreLimit, Over, SettledOrOver, TellsAll, SameOrOver, LessLimit, MoreLimitByRules, Judged, OverLimitBecomes}
 use Rattle.calculus.proofs.Says.{says-ok, says-refused, ok-not-refused}
 use Rattle.calculus.proofs.Limits.{Numbered, Keeps, kept, sixteen, infer-keeps, infer-numbered}
 use Rattle.calculus.proofs.ReadBack.{refused-misread, misread-numbers}
+use Rattle.calculus.proofs.NumberInjective.{number-injective}
 use Rattle.calculus.proofs.CheckDemand.{admitted, check-answer}
 use Rattle.calculus.proofs.Acceptance.{front-of-begun}
 
@@ -47,6 +48,30 @@ admits ws L W O s = on (admission ws L W O)
     on : Admission ws L W O → Admitted L W O
     on (inl a) = a
     on (inr (r, p, e, u)) = absurd (omega (arith, (rw e at s) .0, u))
+
+-- What inference answers is settled or 16.
+inferred-settled : {n : ℕ} {x : Answer Term} (L : ℕ) (W O : List ℕ)
+    → Numbered n x
+    → Settled (checked L W O x .answer) ⊎ Over (checked L W O x)
+unfolding checked Settled number
+inferred-settled L W O (says-ok _) = inl tt
+inferred-settled L W O (says-refused {r} {p} (l, u, _)) = on (ℕ-discrete (number r) 16)
+  where
+    on : Dec (number r ≡ 16) → Settled (checked L W O (refused r p) .answer) ⊎ Over (checked L W O (refused r p))
+    on (yes e) = inr (p, ap (λ s. refused s p) (number-injective r over-limit e))
+    on (no n) = inl (omega arith, λ e. omega (arith, n, u, e))
+
+pub settled-or-over : SettledOrOver
+unfolding check checked Settled _>>=_
+settled-or-over ws L W O (a, w, o) = rw (admitted ws L W O a w o) (on (read ws) refl)
+  where
+    on : (x : Answer Term)
+        → read ws ≡ x
+        → Settled (checked L W O (x >>= λ t. infer L [] 0 t) .answer) ⊎ Over (checked L W O (x >>= λ t. infer L [] 0 t))
+    on (ok t) e = inferred-settled L W O (infer-numbered L [] 0 t)
+    on (refused r p) e =
+        let (l, u, _) = misread-numbers (refused-misread ws r p e) in
+        inl (omega (arith, l), λ f. omega (arith, u, f))
 
 pub tells-all : TellsAll
 unfolding told
@@ -156,7 +181,7 @@ judged L W O (says-refused (l, u, _)) = (l, u)
 
 pub over-limit-becomes : OverLimitBecomes
 unfolding check checked number _>>=_
-over-limit-becomes ws L L′ W W′ O O′ p e (a′, w′, o′) = by (admission ws L W O)
+over-limit-becomes ws L L′ W W′ O O′ (p, e) (a′, w′, o′) = by (admission ws L W O)
   where
     at : (x : Answer Term)
         → read ws ≡ x

@@ -13,11 +13,7 @@ use Rattle.calculus.specs.Outcomes.{check-room, Checked, check}
 use Rattle.calculus.specs.Checks.{Allowed}
 use Rattle.calculus.specs.Starred.{Row, types, refuses, Claims}
 
--- An "allowed L with slices long enough": no refusal by 1–3.
-abbrev pub Admitted : ℕ → List ℕ → List ℕ → Type 0
-Admitted L W O = Allowed L × (check-room L ≤ length W) × (L ≤ length O)
-
--- An answer that "is neither 16 nor one of 1–3".
+-- An "answer [that] is neither 16 nor one of 1–3".
 unfoldable pub Settled : Answer ℕ → Type 0
 Settled (ok n) = Unit
 Settled (refused r p) = (3 < number r) × (number r ≢ 16)
@@ -30,10 +26,9 @@ told c = tell (c .answer)
     tell (ok n) = ok (n, take n (c .output))
     tell (refused r p) = refused r p
 
--- Nothing of these is left out: checks that tell the same have the same answer, place and type.
-abbrev pub TellsAll : Type 0
-TellsAll = (c c′ : Checked) → told c ≡ told c′
-    → (c .answer ≡ c′ .answer) × ((n : ℕ) → c .answer ≡ ok n → take n (c .output) ≡ take n (c′ .output))
+-- An "allowed L with slices long enough": no refusal by 1–3.
+abbrev pub Admitted : ℕ → List ℕ → List ℕ → Type 0
+Admitted L W O = Allowed L × (check-room L ≤ length W) × (L ≤ length O)
 
 -- "A check whose answer at L is neither 16 nor one of 1–3 gives that answer, place and type at every larger allowed L with slices
 -- long enough."
@@ -42,9 +37,22 @@ MoreLimit = (ws : List ℕ) (L L′ : ℕ) (W W′ O O′ : List ℕ)
     → Settled (check ws L W O .answer) → L ≤ L′ → Admitted L′ W′ O′
     → told (check ws L′ W′ O′) ≡ told (check ws L W O)
 
+-- A refusal by 16.
+abbrev pub Over : Checked → Type 0
+Over c = (p : ℕ) × (c .answer ≡ refused over-limit p)
+
+-- No answer is left out but 16: a check that is admitted is settled or refused by 16.
+abbrev pub SettledOrOver : Type 0
+SettledOrOver = (ws : List ℕ) (L : ℕ) (W O : List ℕ) → Admitted L W O → Settled (check ws L W O .answer) ⊎ Over (check ws L W O)
+
+-- Nothing of an answer is left out: checks that tell the same have the same answer, place and type.
+abbrev pub TellsAll : Type 0
+TellsAll = (c c′ : Checked) → told c ≡ told c′
+    → (c .answer ≡ c′ .answer) × ((n : ℕ) → c .answer ≡ ok n → take n (c .output) ≡ take n (c′ .output))
+
 -- Two checks tell the same, or the first is refused by 16.
 abbrev pub SameOrOver : Checked → Checked → Type 0
-SameOrOver c c′ = (told c ≡ told c′) ⊎ ((p : ℕ) × (c .answer ≡ refused over-limit p))
+SameOrOver c c′ = (told c ≡ told c′) ⊎ Over c
 
 -- Read the other way: a smaller limit tells what a larger one tells, or is refused by 16.
 abbrev pub LessLimit : Type 0
@@ -66,8 +74,8 @@ Judged (refused r p) = (10 ≤ number r) × (number r ≤ 16)
 
 -- What becomes of 16: such an answer, at any other limit.
 abbrev pub OverLimitBecomes : Type 0
-OverLimitBecomes = (ws : List ℕ) (L L′ : ℕ) (W W′ O O′ : List ℕ) (p : ℕ)
-    → check ws L W O .answer ≡ refused over-limit p → Admitted L′ W′ O′
+OverLimitBecomes = (ws : List ℕ) (L L′ : ℕ) (W W′ O O′ : List ℕ)
+    → Over (check ws L W O) → Admitted L′ W′ O′
     → Judged (check ws L′ W′ O′ .answer)
 
 -- Examples, at growing limits. 16 becomes another refusal: a down cast of λ x : ⋆. x is 16 at the abstraction, whose type has three
