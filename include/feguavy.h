@@ -14,10 +14,10 @@
 extern "C" {
 #endif
 
-#define FEGUAVY_VERSION_MAJOR 1
+#define FEGUAVY_VERSION_MAJOR 2
 #define FEGUAVY_VERSION_MINOR 0
 #define FEGUAVY_VERSION_PATCH 0
-#define FEGUAVY_VERSION "1.0.0"
+#define FEGUAVY_VERSION "2.0.0"
 
 /* The largest limit, the longest term or state, and the working words of a run. */
 #define FEGUAVY_LARGEST_LIMIT 1024
@@ -59,9 +59,12 @@ typedef struct {
     uint32_t answer, place, length;
 } feguavy_checked;
 
-/* answer: 0 where the run ended, else the refusal; place: of the refusal; end, steps: 0 where refused; allowance: what is left. */
+/* answer: 0 where the run ended, else the refusal; place: of the refusal; end, steps: how it ended, and the steps that it took;
+ * substitutions, unfoldings, cancellations: how many of the steps were by S_BETA, S_MU and S_CASTDOWNUP (a cancelled cast), whatever
+ * S_APP and S_CASTDOWN surround them, so that the three add up to steps; allowance: what is left. Where the run is refused, end, steps
+ * and the three counts are 0. */
 typedef struct {
-    uint32_t answer, place, end, steps, allowance;
+    uint32_t answer, place, end, steps, substitutions, unfoldings, cancellations, allowance;
 } feguavy_ran;
 
 /* The part's first word and its number of words: 0, 0 where there is none. */

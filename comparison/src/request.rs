@@ -5,19 +5,29 @@ use reference::gen::Gen;
 /// What is asked of a term.
 #[derive(Clone, Copy, Debug, PartialEq)]
 pub enum Call {
-    Check { limit: u32 },
-    Run { budget: u32, allowance: u32 },
-    Part { number: u32 },
+    Check {
+        limit: u32,
+    },
+    /// `kinds` says whether the line asks for the steps by kind too; the call is the same.
+    Run {
+        budget: u32,
+        allowance: u32,
+        kinds: bool,
+    },
+    Part {
+        number: u32,
+    },
 }
 
 impl Call {
     /// The verbs of the calls, in their order.
-    pub const VERBS: [&'static str; 3] = ["check", "run", "part"];
+    pub const VERBS: [&'static str; 4] = ["check", "run", "kinds", "part"];
 
     pub fn verb(&self) -> &'static str {
         match self {
             Call::Check { .. } => "check",
-            Call::Run { .. } => "run",
+            Call::Run { kinds: false, .. } => "run",
+            Call::Run { kinds: true, .. } => "kinds",
             Call::Part { .. } => "part",
         }
     }
@@ -38,7 +48,7 @@ impl Request {
         let numbers: Vec<u32> = fields.map(|n| n.parse().ok()).collect::<Option<_>>()?;
         let call = match (verb, &numbers[..]) {
             ("check", &[limit]) => Call::Check { limit },
-            ("run", &[budget, allowance]) => Call::Run { budget, allowance },
+            ("run" | "kinds", &[budget, allowance]) => Call::Run { budget, allowance, kinds: verb == "kinds" },
             ("part", &[number]) => Call::Part { number },
             _ => return None,
         };
@@ -47,12 +57,13 @@ impl Request {
 
     /// The line of a request.
     pub fn line(&self) -> String {
-        let front = match self.call {
-            Call::Check { limit } => format!("check {limit} |"),
-            Call::Run { budget, allowance } => format!("run {budget} {allowance} |"),
-            Call::Part { number } => format!("part {number} |"),
+        let numbers = match self.call {
+            Call::Check { limit } => format!("{limit}"),
+            Call::Run { budget, allowance, .. } => format!("{budget} {allowance}"),
+            Call::Part { number } => format!("{number}"),
         };
-        front + &self.term.iter().map(|w| format!(" {w}")).collect::<String>()
+        let words: String = self.term.iter().map(|w| format!(" {w}")).collect();
+        format!("{} {numbers} |{words}", self.call.verb())
     }
 }
 
@@ -84,14 +95,14 @@ mod tests {
 
     #[test]
     fn a_line_and_back() {
-        for line in ["check 32 | 4 0 16", "run 7 4294967295 |", "part 2 | 2 0 0"] {
+        for line in ["check 32 | 4 0 16", "run 7 4294967295 |", "kinds 7 4294967295 | 0", "part 2 | 2 0 0"] {
             assert_eq!(Request::of(line).unwrap().line(), line);
         }
     }
 
     #[test]
     fn other_lines_are_no_requests() {
-        for line in ["", "next | 0", "kinds 1 1 | 0", "check 1 2 | 0", "check | 0", "check 1 | 65536", "check 1"] {
+        for line in ["", "next | 0", "kinds 1 | 0", "check 1 2 | 0", "check | 0", "check 1 | 65536", "check 1"] {
             assert!(Request::of(line).is_none(), "{line}");
         }
     }

@@ -8,24 +8,22 @@ use reference::check::Answer as Verdict;
 /// What a call answers, by document 01's numbers.
 #[derive(Clone, Copy, Debug, PartialEq)]
 pub enum Answer {
-    Typed {
-        length: usize,
-    },
-    /// `left` is the allowance that a run leaves; a check has none, which is 0 here.
-    Refused {
-        reason: u32,
-        place: usize,
-        left: u32,
-    },
-    Ended {
-        end: u32,
-        steps: u32,
-        left: u32,
-    },
-    Part {
-        start: usize,
-        length: usize,
-    },
+    Typed { length: usize },
+    Refused { reason: u32, place: usize, ran: Ran },
+    Ended(Ran),
+    Part { start: usize, length: usize },
+}
+
+/// The other numbers of a run, of which a refused one has the allowance alone; a check has none, which is 0 here.
+#[derive(Clone, Copy, Debug, Default, PartialEq)]
+pub struct Ran {
+    pub end: u32,
+    pub steps: u32,
+    pub substitutions: u32,
+    pub unfoldings: u32,
+    pub cancellations: u32,
+    /// The allowance left.
+    pub left: u32,
 }
 
 impl Answer {
@@ -34,7 +32,7 @@ impl Answer {
         match *self {
             Answer::Typed { .. } => ("typed", 0),
             Answer::Refused { reason, .. } => ("refused", reason),
-            Answer::Ended { end, .. } => ("ended", end),
+            Answer::Ended(ran) => ("ended", ran.end),
             Answer::Part { length: 0, .. } => ("no part", 0),
             Answer::Part { .. } => ("part", 0),
         }
@@ -56,19 +54,26 @@ pub fn asked(call: Call) -> (usize, usize) {
     }
 }
 
-/// The proved code.
+/// The proved code. Of a run every number that the export answers is taken, also where it is refused.
 pub fn proved(call: Call, term: &[u16], work: &mut [u16], result: &mut [u16]) -> Answer {
-    let refused = |r: feguavy::Refusal, left| Answer::Refused { reason: r.reason.number(), place: r.place, left };
     match call {
         Call::Check { limit } => match feguavy::check(term, limit, work, result) {
             Checked::Typed(length) => Answer::Typed { length },
-            Checked::Refused(r) => refused(r, 0),
+            Checked::Refused(r) => Answer::Refused { reason: r.reason.number(), place: r.place, ran: Ran::default() },
         },
-        Call::Run { budget, allowance } => {
-            let ran = feguavy::run(term, budget, work, result, allowance);
-            match ran.answer {
-                Ok(ended) => Answer::Ended { end: ended.end.number(), steps: ended.steps, left: ran.allowance },
-                Err(r) => refused(r, ran.allowance),
+        Call::Run { budget, allowance, .. } => {
+            let r = feguavy::raw::run(term, budget, work, result, allowance);
+            let ran = Ran {
+                end: r.end,
+                steps: r.steps,
+                substitutions: r.substitutions,
+                unfoldings: r.unfoldings,
+                cancellations: r.cancellations,
+                left: r.allowance,
+            };
+            match r.answer {
+                0 => Answer::Ended(ran),
+                reason => Answer::Refused { reason, place: r.place as usize, ran },
             }
         }
         Call::Part { number } => {
@@ -80,14 +85,25 @@ pub fn proved(call: Call, term: &[u16], work: &mut [u16], result: &mut [u16]) ->
 
 /// The reference, which takes each step of a run.
 pub fn reference(call: Call, term: &[u16], work: &mut [u16], result: &mut [u16]) -> Answer {
-    let refused = |r: reference::read::Refusal, left| Answer::Refused { reason: r.reason as u32, place: r.place as usize, left };
+    let refused = |r: reference::read::Refusal, left| Answer::Refused {
+        reason: r.reason as u32,
+        place: r.place as usize,
+        ran: Ran { left, ..Ran::default() },
+    };
     match call {
         Call::Check { limit } => match reference::check::check(term, limit, work, result) {
             Verdict::Typed(length) => Answer::Typed { length },
             Verdict::Refused(r) => refused(r, 0),
         },
-        Call::Run { budget, allowance } => match reference::run::run(term, budget, work, result, allowance) {
-            Ok(ran) => Answer::Ended { end: ran.end as u32, steps: ran.steps, left: ran.left },
+        Call::Run { budget, allowance, .. } => match reference::run::run(term, budget, work, result, allowance) {
+            Ok(r) => Answer::Ended(Ran {
+                end: r.end as u32,
+                steps: r.steps,
+                substitutions: r.counts.beta,
+                unfoldings: r.counts.mu,
+                cancellations: r.counts.cancel,
+                left: r.left,
+            }),
             Err(r) => refused(r, allowance),
         },
         Call::Part { number } => match reference::read::part(term, number) {

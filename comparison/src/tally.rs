@@ -77,15 +77,17 @@ mod tests {
 
     #[test]
     fn too_few_are_an_error() {
-        assert!(one_of_each().covering(3).is_ok());
-        assert!(one_of_each().covering(4).is_err());
+        assert!(one_of_each().covering(Call::VERBS.len()).is_ok());
+        assert!(one_of_each().covering(Call::VERBS.len() + 1).is_err());
         assert!(Tally::default().covering(0).is_err());
     }
 
     #[test]
     fn a_verb_left_out_is_an_error() {
-        let mut tally = one_of_each();
-        tally.0.retain(|key, _| key.0 != "part");
-        assert!(tally.covering(2).is_err());
+        for verb in Call::VERBS {
+            let mut tally = one_of_each();
+            tally.0.retain(|key, _| key.0 != verb);
+            assert!(tally.covering(2).is_err());
+        }
     }
 }

@@ -1,4 +1,4 @@
-/* Prints the type of a term given as words in decimal, and where a run of it ends.
+/* Prints the type of a term given as words in decimal, and where a run of it ends, with its steps by kind.
  *
  *     cc -I include host/examples/type.c target/staticlib/libfeguavy.a -o type && ./type 4 0 16
  *
@@ -50,7 +50,8 @@ int main(int argc, char **argv) {
     }
     print_words("type:", output, checked.length);
     feguavy_ran ran = feguavy_run(term, count, BUDGET, work, FEGUAVY_CHECK_WORK(LIMIT), state, FEGUAVY_LONGEST, BUDGET);
-    printf("run: ended %s after %u steps\n", feguavy_end_text(ran.end), ran.steps);
+    printf("run: ended %s, steps: %u, substitutions: %u, unfoldings: %u, cancelled casts: %u\n", feguavy_end_text(ran.end), ran.steps,
+           ran.substitutions, ran.unfoldings, ran.cancellations);
     print_words("state:", state, feguavy_length(state, FEGUAVY_LONGEST));
     return 0;
 }

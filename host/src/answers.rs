@@ -1,5 +1,6 @@
 //! What the calls answer, with document 01's numbers.
 
+use crate::Kind;
 use std::fmt;
 
 /// Why a call is refused, in the order of document 01's numbers.
@@ -229,19 +230,55 @@ impl fmt::Display for End {
     }
 }
 
-/// How a run ended, and the steps that it took.
+/// How a run ended, and the steps that it took, in all and by kind.
+///
+/// ```
+/// use feguavy::{End, Ended, Kind};
+/// let ended = Ended { end: End::Value, steps: 3, substitutions: 1, unfoldings: 2, cancellations: 0 };
+/// assert_eq!(ended.to_string(), "ended at a value after 3 steps (1 substitution, 2 unfoldings)");
+/// assert_eq!(Kind::ALL.map(|kind| ended.of_kind(kind)), [1, 2, 0]);
+/// ```
 #[derive(Clone, Copy, Debug, PartialEq, Eq, Hash)]
 pub struct Ended {
     /// The first end that holds of the state reached.
     pub end: End,
-    /// The steps taken.
+    /// The steps taken: the three counts below add up to them.
     pub steps: u32,
+    /// How many of the steps were by S_BETA.
+    pub substitutions: u32,
+    /// How many of the steps were by S_MU.
+    pub unfoldings: u32,
+    /// How many of the steps were by S_CASTDOWNUP.
+    pub cancellations: u32,
 }
 
+impl Ended {
+    /// How many of the steps were of that kind.
+    pub fn of_kind(&self, kind: Kind) -> u32 {
+        match kind {
+            Kind::Substitution => self.substitutions,
+            Kind::Unfolding => self.unfoldings,
+            Kind::Cancellation => self.cancellations,
+        }
+    }
+}
+
+/// The kinds that occur stand behind the steps.
 impl fmt::Display for Ended {
     fn fmt(&self, f: &mut fmt::Formatter) -> fmt::Result {
-        write!(f, "ended {} after {} step{}", self.end, self.steps, if self.steps == 1 { "" } else { "s" })
+        write!(f, "ended {} after {}", self.end, counted(self.steps, "step"))?;
+        let occurring = Kind::ALL.into_iter().filter(|&kind| self.of_kind(kind) > 0);
+        let kinds: Vec<String> = occurring.map(|kind| counted(self.of_kind(kind), kind.text())).collect();
+        match kinds.is_empty() {
+            true => Ok(()),
+            false => write!(f, " ({})", kinds.join(", ")),
+        }
     }
+}
+
+/// So many of what the word names.
+fn counted(count: u32, word: &str) -> String {
+    format!("{count} {word}{}", if count == 1 { "" } else { "s" })
 }
 
 /// The answer of a run, and the allowance left on the desk.

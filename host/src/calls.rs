@@ -41,13 +41,21 @@ pub fn check(term: &[u16], limit: u32, work: &mut [u16], output: &mut [u16]) -> 
 /// use feguavy::{run, End, Ended, RUN_WORK, LONGEST};
 /// let (mut work, mut state) = (vec![0; RUN_WORK], vec![9; LONGEST]);
 /// let ran = run(&[1, 3, 2, 4, 0, 16, 0, 0], 1000, &mut work, &mut state, 1000);
-/// assert_eq!(ran.answer, Ok(Ended { end: End::Value, steps: 1 }));
+/// let ended = ran.answer.unwrap();
+/// assert_eq!(ended, Ended { end: End::Value, steps: 1, substitutions: 0, unfoldings: 0, cancellations: 1 });
+/// assert_eq!(ended.to_string(), "ended at a value after 1 step (1 cancelled cast)");
 /// assert_eq!((state[0], state[1], ran.allowance), (0, 9, 999));
 /// ```
 pub fn run(term: &[u16], budget: u32, work: &mut [u16], state: &mut [u16], allowance: u32) -> Ran {
     let r = raw::run(term, budget, work, state, allowance);
     let answer = match r.answer {
-        0 => Ok(Ended { end: End::try_from(r.end).expect("an end's number"), steps: r.steps }),
+        0 => Ok(Ended {
+            end: End::try_from(r.end).expect("an end's number"),
+            steps: r.steps,
+            substitutions: r.substitutions,
+            unfoldings: r.unfoldings,
+            cancellations: r.cancellations,
+        }),
         number => Err(Refusal::of(number, r.place)),
     };
     Ran { answer, allowance: r.allowance }
@@ -85,7 +93,7 @@ pub fn length(words: &[u16]) -> usize {
 /// ```
 /// let mut buffers = feguavy::Buffers::for_limit(32);
 /// let (ran, state) = buffers.run(&[6, 0, 16], 10, 100);
-/// assert_eq!(ran.to_string(), "ended with every step granted taken after 10 steps, 90 left");
+/// assert_eq!(ran.to_string(), "ended with every step granted taken after 10 steps (10 unfoldings), 90 left");
 /// assert_eq!(state, [6, 0, 16]);
 /// ```
 #[derive(Clone, Debug)]

@@ -29,9 +29,11 @@ mod bytes;
 mod calls;
 mod explain;
 mod explanation;
+mod kind;
 mod layout;
 mod names;
-mod raw;
+#[doc(hidden)]
+pub mod raw;
 mod reading;
 #[doc(hidden)]
 pub mod shapes;
@@ -46,4 +48,5 @@ pub use bytes::{bytes_from_words, words_from_bytes};
 pub use calls::{check, check_work, length, part, run, Buffers, LARGEST_LIMIT, LONGEST, RUN_WORK};
 pub use explain::explain;
 pub use explanation::{Explanation, Fact, Variable};
+pub use kind::Kind;
 pub use show::{show, Style};

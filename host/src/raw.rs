@@ -15,6 +15,9 @@ pub struct RanNumbers {
     pub place: u32,
     pub end: u32,
     pub steps: u32,
+    pub substitutions: u32,
+    pub unfoldings: u32,
+    pub cancellations: u32,
     pub allowance: u32,
 }
 

@@ -29,6 +29,25 @@ int main(void) {
 }
 "#;
 
+/// Prints every number of a run of three cancelled casts, two unfoldings and one substitution, with a budget of 5 and with one of
+/// 1,000, and of a run that is refused; the desk holds 100.
+const RUNS: &str = r#"
+#include <feguavy.h>
+#include <stdio.h>
+static uint16_t work[FEGUAVY_RUN_WORK], state[FEGUAVY_LONGEST];
+static void print_run(const uint16_t *term, size_t count, uint32_t budget) {
+    const feguavy_ran r = feguavy_run(term, count, budget, work, FEGUAVY_RUN_WORK, state, FEGUAVY_LONGEST, 100);
+    printf("%u %u %u %u %u %u %u %u\n", r.answer, r.place, r.end, r.steps, r.substitutions, r.unfoldings, r.cancellations, r.allowance);
+}
+int main(void) {
+    const uint16_t mixed[18] = {1, 3, 0, 1, 3, 0, 1, 3, 0, 6, 0, 6, 0, 2, 4, 0, 16, 0}, unbound[3] = {4, 0, 17};
+    print_run(mixed, 18, 5);
+    print_run(mixed, 18, 1000);
+    print_run(unbound, 3, 1000);
+    return 0;
+}
+"#;
+
 fn root() -> PathBuf {
     Path::new(env!("CARGO_MANIFEST_DIR")).join("..")
 }
@@ -84,6 +103,18 @@ fn texts_and_lengths() {
 }
 
 #[test]
+fn numbers_of_runs() {
+    let folder = installed("runs");
+    let source = folder.join("runs.c");
+    write(&source, RUNS).unwrap();
+    for (compiler, language) in LANGUAGES {
+        let lines = said(&mut Command::new(build(&folder, compiler, language, &source)));
+        assert_eq!(lines, "0 0 2 5 0 2 3 95\n0 0 1 6 1 2 3 94\n9 2 0 0 0 0 0 100\n", "{compiler}");
+    }
+    remove_dir_all(&folder).unwrap();
+}
+
+#[test]
 fn example() {
     let folder = installed("example");
     let source = root().join("host/examples/type.c").canonicalize().unwrap();
@@ -93,7 +124,12 @@ fn example() {
             let output = Command::new(&program).args(words.split_whitespace()).output().unwrap();
             (output.status.code().unwrap(), String::from_utf8(output.stdout).unwrap())
         };
-        assert_eq!(answer("4 0 16"), (0, "type: 5 0 0\nrun: ended at a value after 0 steps\nstate: 4 0 16\n".to_string()));
+        let typed =
+            "type: 5 0 0\nrun: ended at a value, steps: 0, substitutions: 0, unfoldings: 0, cancelled casts: 0\nstate: 4 0 16\n";
+        assert_eq!(answer("4 0 16"), (0, typed.to_string()));
+        // cast↓ cast↑ [(λ x : ⋆. x) ⋆] (μ _ : ⋆. μ _ : ⋆. ⋆)
+        let stepping = "type: 0\nrun: ended at a value, steps: 3, substitutions: 0, unfoldings: 2, cancelled casts: 1\nstate: 0\n";
+        assert_eq!(answer("1 3 2 4 0 16 0 6 0 6 0 0"), (0, stepping.to_string()));
         assert_eq!(answer("1 0"), (1, "refused: a cast whose type does not step (refusal 13, place 0)\n".to_string()));
         assert_eq!(answer(&"0 ".repeat(1025)), (1, "refused: a term of 0 or over 1,024 words (refusal 4, place 0)\n".to_string()));
         for no_word in ["x", "+1", "-1", "65536", "1.0", "0x1", "99999999999999999999999"] {

@@ -49,6 +49,9 @@ impl Drop for Folder {
     }
 }
 
+/// Three cancelled casts, two unfoldings, one substitution.
+const MIXED: &str = "1 3 0 1 3 0 1 3 0 6 0 6 0 2 4 0 16 0";
+
 #[test]
 fn answers() {
     says(&["check", "--words", "4 0 16"], "typed: ⋆ → ⋆\n", 0);
@@ -61,8 +64,19 @@ fn answers() {
         1,
     );
     says(&["check", "--limit=5", "--words=4 0 4 16 16"], "typed: Π x : ⋆. x → x\n", 0);
-    says(&["run", "--words", "1 3 2 4 0 16 0 0"], "ended at a value after 1 step: ⋆\n", 0);
-    says(&["run", "--budget", "7", "--words", "6 0 16"], "ended with every step granted taken after 7 steps: μ x : ⋆. x\n", 0);
+    says(&["run", "--words", "1 3 2 4 0 16 0 0"], "ended at a value after 1 step (1 cancelled cast): ⋆\n", 0);
+    says(
+        &["run", "--budget", "7", "--words", "6 0 16"],
+        "ended with every step granted taken after 7 steps (7 unfoldings): μ x : ⋆. x\n",
+        0,
+    );
+    says(&["run", "--words", MIXED], "ended at a value after 6 steps (1 substitution, 2 unfoldings, 3 cancelled casts): ⋆\n", 0);
+    says(
+        &["run", "--budget", "1", "--words", "2 4 0 16 0"],
+        "ended with every step granted taken after 1 step (1 substitution): ⋆\n",
+        0,
+    );
+    says(&["run", "--words", "6 0 0"], "ended at a value after 1 step (1 unfolding): ⋆\n", 0);
     says(&["run", "--words", "2 0 0"], "ended stuck after 0 steps: ⋆ ⋆\n", 0);
     says(&["run", "--words", "4 0 17"], "refused: a variable outside all its binders, at place 2 (refusal 9)\n", 1);
     says(&["show", "--words", "4 0 17"], "λ _ : ⋆. #0\n", 0);
@@ -79,22 +93,58 @@ fn answers() {
 
 #[test]
 fn traces() {
-    let printed = "0: cast↓ cast↑ [(λ x : ⋆. x) ⋆] ⋆\n1: ⋆\nended at a value after 1 step\n";
-    says(&["run", "--trace", "--words", "1 3 2 4 0 16 0 0"], printed, 0);
-    says(&["run", "--trace", "--budget", "0", "--words", "0"], "0: ⋆\nended with every step granted taken after 0 steps\n", 0);
+    let printed = "\
+0:                 cast↓ cast↑ [⋆] cast↓ cast↑ [⋆] cast↓ cast↑ [⋆] (μ _ : ⋆. μ _ : ⋆. (λ x : ⋆. x) ⋆)
+1: S_CASTDOWNUP    cast↓ cast↑ [⋆] cast↓ cast↑ [⋆] (μ _ : ⋆. μ _ : ⋆. (λ x : ⋆. x) ⋆)
+2: S_CASTDOWNUP    cast↓ cast↑ [⋆] (μ _ : ⋆. μ _ : ⋆. (λ x : ⋆. x) ⋆)
+3: S_CASTDOWNUP    μ _ : ⋆. μ _ : ⋆. (λ x : ⋆. x) ⋆
+4: S_MU            μ _ : ⋆. (λ x : ⋆. x) ⋆
+5: S_MU            (λ x : ⋆. x) ⋆
+6: S_BETA          ⋆
+ended at a value after 6 steps (1 substitution, 2 unfoldings, 3 cancelled casts)
+";
+    says(&["run", "--trace", "--words", MIXED], printed, 0);
+    says(
+        &["run", "--trace", "--budget", "0", "--words", "0"],
+        "0:                 ⋆\nended with every step granted taken after 0 steps\n",
+        0,
+    );
+    says(
+        &["run", "--trace", "--budget", "1", "--words", "2 6 0 0 0"],
+        "0:                 (μ _ : ⋆. ⋆) ⋆\n1: S_MU            ⋆ ⋆\nended with every step granted taken after 1 step (1 unfolding)\n",
+        0,
+    );
     says(&["run", "--trace", "--words", "7"], "refused: a word without meaning, at place 0 (refusal 5)\n", 1);
-    // states of more than 64 levels cannot be begun anew: each is that of a run of the term itself
-    let term = [6, 0, 1, 16];
-    let (out, _, status) = with_input(&["run", "--trace", "--budget", "2000", "--words", "6 0 1 16"], b"");
-    assert_eq!(status, 0);
+}
+
+/// Each line of a trace is the state of a run of the term itself, also where that has more than 64 levels and could not be run as a
+/// term; the rules are given from the first step on, again and again.
+fn traces_as(words: &str, budget: u32, rules: &[&str], last: &str) {
+    let term: Vec<u16> = words.split(' ').map(|word| word.parse().unwrap()).collect();
+    let (out, err, status) = with_input(&["run", "--trace", "--budget", &budget.to_string(), "--words", words], b"");
+    assert_eq!((&err[..], status), ("", 0));
+    let mut lines: Vec<&str> = out.lines().collect();
+    assert_eq!(lines.pop(), Some(last));
     let mut buffers = Buffers::for_limit(1);
-    let lines: Vec<&str> = out.lines().collect();
-    assert_eq!(lines.len(), 1022);
-    for (step, line) in lines[..1021].iter().enumerate() {
-        let (_, state) = buffers.run(&term, step as u32, u32::MAX);
-        assert_eq!(*line, format!("{step}: {}", Style::default().on_one_line().show(state).unwrap()));
+    for (step, line) in lines.iter().enumerate() {
+        let (ran, state) = buffers.run(&term, step as u32, u32::MAX);
+        assert_eq!(ran.answer.unwrap().steps, step as u32);
+        let head = if step == 0 { "0:".to_string() } else { format!("{step}: {}", rules[(step - 1) % rules.len()]) };
+        assert_eq!(*line, format!("{head:<18} {}", Style::default().on_one_line().show(state).unwrap()));
     }
-    assert_eq!(lines[1021], "ended before a state of over 1,024 words after 1020 steps");
+    assert!(last.contains(&format!(" after {} steps", lines.len() - 1)), "{last}");
+}
+
+#[test]
+fn traces_of_many_levels() {
+    let last = "ended before a state of over 1,024 words after 1020 steps (1020 unfoldings)";
+    traces_as("6 0 1 16", 2000, &["S_MU"], last);
+    // μ x : ⋆. cast↓ ((λ y : ⋆. y) x), where the down casts surround both steps
+    let last = "ended with every step granted taken after 301 steps (150 substitutions, 151 unfoldings)";
+    traces_as("6 0 1 2 4 0 16 16", 301, &["S_MU", "S_BETA"], last);
+    // μ x : ⋆. (cast↓ cast↑ [⋆] x) ⋆, where the applications do
+    let last = "ended with every step granted taken after 301 steps (151 unfoldings, 150 cancelled casts)";
+    traces_as("6 0 2 1 3 0 16 0", 301, &["S_MU", "S_CASTDOWNUP"], last);
 }
 
 #[test]
@@ -113,11 +163,19 @@ fn lines_of_json() {
     says(&["explain", "--json", "--words", "1 0"], &format!("{refused}{more}"), 1);
     let (out, _, _) = with_input(&["explain", "--json", "--words", "4 0 1 16"], b"");
     assert!(out.contains("\"variables\":[{\"name\":\"x\",\"binder\":0,\"words\":[0],\"text\":\"⋆\"}],\"hint\":null"), "{out}");
-    let ended = "{\"input\":\"2 4 0 16 0\",\"answer\":\"ended\",\"end\":1,\"steps\":1,\"state\":[0],\"text\":\"⋆\"}\n";
+    let ended = "{\"input\":\"2 4 0 16 0\",\"answer\":\"ended\",\"end\":1,\"steps\":1,\"substitutions\":1,\"unfoldings\":0,\
+        \"cancellations\":0,\"state\":[0],\"text\":\"⋆\"}\n";
     says(&["run", "--json", "--words", "2 4 0 16 0"], ended, 0);
-    let states = "{\"input\":\"2 4 0 16 0\",\"answer\":\"state\",\"step\":0,\"state\":[2,4,0,16,0],\"text\":\"(λ x : ⋆. x) ⋆\"}\n\
-        {\"input\":\"2 4 0 16 0\",\"answer\":\"state\",\"step\":1,\"state\":[0],\"text\":\"⋆\"}\n";
+    let states = "{\"input\":\"2 4 0 16 0\",\"answer\":\"state\",\"step\":0,\"rule\":null,\"state\":[2,4,0,16,0],\
+        \"text\":\"(λ x : ⋆. x) ⋆\"}\n\
+        {\"input\":\"2 4 0 16 0\",\"answer\":\"state\",\"step\":1,\"rule\":\"S_BETA\",\"state\":[0],\"text\":\"⋆\"}\n";
     says(&["run", "--trace", "--json", "--words", "2 4 0 16 0"], &format!("{states}{ended}"), 0);
+    let (out, _, _) = with_input(&["run", "--trace", "--json", "--words", MIXED], b"");
+    let lines: Vec<&str> = out.lines().collect();
+    for (step, rule) in ["S_CASTDOWNUP", "S_CASTDOWNUP", "S_CASTDOWNUP", "S_MU", "S_MU", "S_BETA"].into_iter().enumerate() {
+        assert!(lines[step + 1].contains(&format!("\"step\":{},\"rule\":\"{rule}\",\"state\":[", step + 1)), "{out}");
+    }
+    assert!(lines[7].contains("\"steps\":6,\"substitutions\":1,\"unfoldings\":2,\"cancellations\":3,\"state\":[0]"), "{out}");
     says(
         &["show", "--json", "--ascii", "--words", "4 0 16"],
         "{\"input\":\"4 0 16\",\"answer\":\"shown\",\"words\":[4,0,16],\"text\":\"\\\\ x : *. x\"}\n",

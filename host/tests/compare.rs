@@ -3,6 +3,7 @@
 mod lines;
 
 use lines::Slices;
+use std::collections::BTreeMap;
 use std::path::Path;
 
 #[test]
@@ -15,13 +16,13 @@ fn requests() {
     let mut slices = Slices::new();
     // what is no request is for `batch` to tell
     let requests = lines.lines().zip(answers.lines()).filter(|(_, theirs)| *theirs != "error");
-    let mut compared = 0;
+    let mut compared = BTreeMap::from(["check", "run", "kinds", "part"].map(|verb| (verb, 0)));
     for (line, theirs) in requests {
         if let Some(ours) = slices.answer(line) {
             assert_eq!(ours, theirs, "{line}");
-            compared += 1;
+            *compared.get_mut(line.split_whitespace().next().unwrap()).unwrap() += 1;
         }
     }
-    println!("{compared} requests compared");
-    assert!(compared > 1000);
+    println!("requests compared: {compared:?}");
+    assert!(compared.values().sum::<u32>() > 1000 && compared.values().all(|&count| count > 20));
 }

@@ -1,6 +1,6 @@
 //! The edges of document 01 and the settled readings of docs/DECISIONS.md.
 
-use feguavy::{part, Buffers, End, Ended, Reason, Refusal};
+use feguavy::{part, Buffers, End, Reason, Refusal};
 
 fn words(text: &str) -> Vec<u16> {
     text.split_whitespace().map(|w| w.parse().unwrap()).collect()
@@ -20,7 +20,8 @@ fn refuses(limit: u32, term: &[u16], number: u32, place: usize) {
 fn ends(term: &str, budget: u32, end: End, steps: u32, state: &str) {
     let mut buffers = Buffers::for_limit(1);
     let (ran, reached) = buffers.run(&words(term), budget, u32::MAX);
-    assert_eq!(ran.answer, Ok(Ended { end, steps }), "{term}");
+    let ended = ran.answer.unwrap();
+    assert_eq!((ended.end, ended.steps), (end, steps), "{term}");
     assert_eq!(ran.allowance, u32::MAX - steps);
     assert_eq!(reached, words(state));
 }

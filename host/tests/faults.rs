@@ -230,19 +230,21 @@ fn input_that_fails() {
 /// The answers before a run of many steps come while it runs.
 #[test]
 fn long_run_behind_others() {
-    let (input, mut writer) = pipe().unwrap();
-    writer.write_all(b"check 32 | 0\nrun 300000000 300000000 | 6 0 16\n").unwrap();
-    let mut child = start(input, Stdio::piped());
-    let output = child.stdout.take().unwrap();
-    let (sender, receiver) = channel();
-    spawn(move || {
-        let mut line = String::new();
-        let _ = BufReader::new(output).read_line(&mut line).map(|_| sender.send(line));
-    });
-    let first = receiver.recv_timeout(Duration::from_secs(2));
-    child.kill().unwrap();
-    child.wait().unwrap();
-    assert_eq!(first.as_deref(), Ok("typed | 0\n"), "held back by the run behind it");
+    for verb in ["run", "kinds"] {
+        let (input, mut writer) = pipe().unwrap();
+        writer.write_all(format!("check 32 | 0\n{verb} 300000000 300000000 | 6 0 16\n").as_bytes()).unwrap();
+        let mut child = start(input, Stdio::piped());
+        let output = child.stdout.take().unwrap();
+        let (sender, receiver) = channel();
+        spawn(move || {
+            let mut line = String::new();
+            let _ = BufReader::new(output).read_line(&mut line).map(|_| sender.send(line));
+        });
+        let first = receiver.recv_timeout(Duration::from_secs(2));
+        child.kill().unwrap();
+        child.wait().unwrap();
+        assert_eq!(first.as_deref(), Ok("typed | 0\n"), "held back by the {verb} behind it");
+    }
 }
 
 #[test]

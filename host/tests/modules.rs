@@ -90,6 +90,7 @@ fn requests_of_each_kind() {
     for (arguments, answer) in [
         (&["check", "32"][..], "typed | 0"),
         (&["run", "1000", "400"], "ran 1 1 399 | 0"),
+        (&["kinds", "1000", "400"], "ran 1 1 0 0 1 399 | 0"),
         (&["part", "1"], "part | 3 2 4 0 16 0 0"),
     ] {
         // the last line needs no line feed
@@ -103,7 +104,16 @@ fn requests_of_each_kind() {
 fn arguments_that_are_no_request() {
     let folder = Folder::new("arguments");
     let long = "9".repeat(100);
-    for arguments in [&[][..], &["check"], &["check", ""], &["check", "1", "2"], &["run", "1"], &["walk", "1"], &["check", &long]] {
+    for arguments in [
+        &[][..],
+        &["check"],
+        &["check", ""],
+        &["check", "1", "2"],
+        &["run", "1"],
+        &["kinds", "1"],
+        &["walk", "1"],
+        &["check", &long],
+    ] {
         let output = folder.run(arguments, b"missing\n", Stdio::piped());
         assert_eq!(text(&output.stdout), "", "{arguments:?}");
         assert!(text(&output.stderr).starts_with("modules: check LIMIT"), "{arguments:?}");

@@ -1,6 +1,6 @@
 //! Every word of every lent slice, before and after, at each boundary length.
 
-use feguavy::{check, check_work, length, run, Checked, LONGEST, RUN_WORK};
+use feguavy::{check, check_work, length, raw, run, Checked, LONGEST, RUN_WORK};
 
 fn garbage(count: usize) -> Vec<u16> {
     (0..count).map(|i| (i % 20000) as u16 + 40000).collect()
@@ -60,6 +60,12 @@ fn checks() {
     }
 }
 
+/// The numbers of a run that the archive answers beside the answer, its place and the allowance, also where it is refused.
+fn numbers(term: &[u16], budget: u32, work: &mut [u16], state: &mut [u16], allowance: u32) -> [u32; 5] {
+    let r = raw::run(term, budget, work, state, allowance);
+    [r.end, r.steps, r.substitutions, r.unfoldings, r.cancellations]
+}
+
 #[test]
 fn runs() {
     for term in TERMS {
@@ -76,6 +82,7 @@ fn runs() {
                             assert!((2..=9).contains(&number));
                             assert_eq!(number == 2, work_len < RUN_WORK);
                             assert_eq!(number == 3, work_len >= RUN_WORK && state_len < LONGEST);
+                            assert_eq!(numbers(term, budget, &mut work, &mut state, allowance), [0; 5]);
                         }
                         Ok(ended) => {
                             assert!(work_len >= RUN_WORK && state_len >= LONGEST);
@@ -85,6 +92,7 @@ fn runs() {
                             assert_eq!(state[n..], kept[n..]);
                             assert!(ended.steps <= budget.min(allowance));
                             assert_eq!(ran.allowance, allowance - ended.steps);
+                            assert_eq!(ended.steps, ended.substitutions + ended.unfoldings + ended.cancellations);
                         }
                     }
                 }

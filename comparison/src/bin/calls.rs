@@ -62,11 +62,11 @@ impl Cases {
                 let edge = *numbers.pick(&[0, 1, 2, 1023, 1024, 1025, 1030, u32::MAX]);
                 Call::Check { limit: if numbers.one_in(2) { edge } else { numbers.below(1031) as u32 } }
             }
-            Call::Run { .. } => {
+            Call::Run { kinds, .. } => {
                 // one of the two is small, since a run may have no end
                 let (small, any) = (numbers.below(40) as u32, *numbers.pick(&[0, 1, 39, 1000, u32::MAX - 1, u32::MAX]));
                 let (budget, allowance) = if numbers.one_in(2) { (small, any) } else { (any, small) };
-                Call::Run { budget, allowance }
+                Call::Run { budget, allowance, kinds }
             }
             Call::Part { .. } => Call::Part { number: *numbers.pick(&[0, 1, 2, 3, u32::MAX]) },
         }
@@ -123,7 +123,7 @@ struct Outcome {
     after: Case,
 }
 
-fn outcome(side: Side, case: &Case) -> Outcome {
+fn outcome(side: impl Fn(Call, &[u16], &mut [u16], &mut [u16]) -> Answer, case: &Case) -> Outcome {
     let mut after = case.clone();
     let answer = side(after.request.call, &after.request.term, after.work.slice(), after.result.slice());
     Outcome { answer, after }
@@ -147,10 +147,15 @@ fn difference(ours: &Outcome, theirs: &Outcome) -> Option<String> {
 }
 
 /// Counts the calls, up to the first whose outcomes differ.
-fn compare(seed: u64, count: usize, ours: Side, theirs: Side) -> Result<Tally, String> {
+fn compare(
+    seed: u64,
+    count: usize,
+    ours: impl Fn(Call, &[u16], &mut [u16], &mut [u16]) -> Answer,
+    theirs: Side,
+) -> Result<Tally, String> {
     let mut tally = Tally::default();
     for (number, case) in Cases::of_seed(seed).take(count).enumerate() {
-        let (ours, theirs) = (outcome(ours, &case), outcome(theirs, &case));
+        let (ours, theirs) = (outcome(&ours, &case), outcome(theirs, &case));
         if let Some(difference) = difference(&ours, &theirs) {
             let (work, result) = (case.work.to - case.work.from, case.result.to - case.result.from);
             return Err(format!(
@@ -177,11 +182,35 @@ fn main() -> ExitCode {
 #[cfg(test)]
 mod tests {
     use super::*;
+    use comparison::side::Ran;
+    use std::mem::swap;
 
     const COUNT: usize = 400;
 
-    fn noticed(wrong: Side) -> bool {
+    fn noticed(wrong: impl Fn(Call, &[u16], &mut [u16], &mut [u16]) -> Answer) -> bool {
         compare(3, COUNT, wrong, reference).is_err()
+    }
+
+    /// Whether a change in the numbers of the runs that end is noticed.
+    fn noticed_where_ended(change: fn(&mut Ran)) -> bool {
+        noticed(|call, term, work, result| {
+            let mut answer = reference(call, term, work, result);
+            if let Answer::Ended(ran) = &mut answer {
+                change(ran);
+            }
+            answer
+        })
+    }
+
+    /// Whether a change in the numbers of the runs that are refused is noticed.
+    fn noticed_where_refused(change: fn(&mut Ran)) -> bool {
+        noticed(|call, term, work, result| {
+            let mut answer = reference(call, term, work, result);
+            if let (Call::Run { .. }, Answer::Refused { ran, .. }) = (call, &mut answer) {
+                change(ran);
+            }
+            answer
+        })
     }
 
     #[test]
@@ -192,17 +221,37 @@ mod tests {
     #[test]
     fn a_wrong_place_is_noticed() {
         assert!(noticed(|call, term, work, result| match reference(call, term, work, result) {
-            Answer::Refused { reason, place, left } => Answer::Refused { reason, place: place + 1, left },
+            Answer::Refused { reason, place, ran } => Answer::Refused { reason, place: place + 1, ran },
             answer => answer,
         }));
     }
 
     #[test]
     fn an_allowance_lowered_by_a_refusal_is_noticed() {
-        assert!(noticed(|call, term, work, result| match reference(call, term, work, result) {
-            Answer::Refused { reason, place, left } => Answer::Refused { reason, place, left: left / 2 },
-            answer => answer,
-        }));
+        assert!(noticed_where_refused(|ran| ran.left /= 2));
+    }
+
+    #[test]
+    fn a_count_lost_is_noticed() {
+        assert!(noticed_where_ended(|ran| ran.substitutions = 0));
+        assert!(noticed_where_ended(|ran| ran.unfoldings = 0));
+        assert!(noticed_where_ended(|ran| ran.cancellations = 0));
+    }
+
+    #[test]
+    fn counts_in_each_others_place_are_noticed() {
+        assert!(noticed_where_ended(|ran| swap(&mut ran.substitutions, &mut ran.unfoldings)));
+        assert!(noticed_where_ended(|ran| swap(&mut ran.substitutions, &mut ran.cancellations)));
+        assert!(noticed_where_ended(|ran| swap(&mut ran.unfoldings, &mut ran.cancellations)));
+    }
+
+    #[test]
+    fn numbers_of_a_refused_run_are_noticed() {
+        assert!(noticed_where_refused(|ran| ran.end = 1));
+        assert!(noticed_where_refused(|ran| ran.steps = 1));
+        assert!(noticed_where_refused(|ran| ran.substitutions = 1));
+        assert!(noticed_where_refused(|ran| ran.unfoldings = 1));
+        assert!(noticed_where_refused(|ran| ran.cancellations = 1));
     }
 
     #[test]

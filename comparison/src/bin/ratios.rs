@@ -42,8 +42,10 @@ impl Unit {
     }
 }
 
+/// Runs by `run` alone: `kinds` is the same call, and without it a seed has the requests that it always had, so that figures of
+/// different commits are of the same terms.
 fn mixed(seed: u64) -> Vec<Request> {
-    Requests::of_seed(seed).take(MIXED).collect()
+    Requests::of_seed(seed).filter(|r| !matches!(r.call, Call::Run { kinds: true, .. })).take(MIXED).collect()
 }
 
 fn slow() -> Vec<Request> {
@@ -77,7 +79,7 @@ fn turn(side: Side, requests: &[&Request], slices: &mut Slices) -> (f64, u64) {
     for request in requests {
         let answer = side(request.call, black_box(&request.term), &mut slices.work, &mut slices.result);
         units += match (request.call, black_box(answer)) {
-            (Call::Run { .. }, Answer::Ended { steps, .. }) => steps as u64,
+            (Call::Run { .. }, Answer::Ended(ran)) => ran.steps as u64,
             (Call::Run { .. }, _) => 0,
             _ => 1,
         };

@@ -102,6 +102,35 @@ mod tests {
         }
     }
 
+    /// The answer to `kinds` has the counts behind the steps: `ran END STEPS BETA MU CANCEL LEFT | WORDS`.
+    #[test]
+    fn a_count_lost_or_in_anothers_place_is_noticed() {
+        for (one, other) in [(3, 4), (3, 5), (4, 5)] {
+            let swapped = |answer: &String| {
+                let mut fields: Vec<&str> = answer.split(' ').collect();
+                fields.swap(one, other);
+                fields.join(" ")
+            };
+            assert!(compared(|ours| {
+                let differs = |answer: &&mut String| is_by_kind(answer) && swapped(answer) != **answer;
+                let answer = ours.iter_mut().find(differs).expect("an answer with other counts");
+                *answer = swapped(answer);
+            })
+            .is_err());
+        }
+        assert!(compared(|ours| {
+            let answer = ours.iter_mut().find(|answer| is_by_kind(answer)).expect("an answer by kind");
+            let fields: Vec<&str> = answer.split(' ').collect();
+            *answer = [&fields[..3], &fields[6..]].concat().join(" ");
+        })
+        .is_err());
+    }
+
+    /// Whether the answer is that of a run to `kinds`: `ran` and six numbers stand before the bar.
+    fn is_by_kind(answer: &str) -> bool {
+        answer.starts_with("ran ") && answer.split(' ').position(|field| field == "|") == Some(7)
+    }
+
     #[test]
     fn an_answer_too_many_or_too_few_is_noticed() {
         assert!(compared(|ours| ours.truncate(299)).is_err());

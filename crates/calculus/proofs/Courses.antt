@@ -1,5 +1,5 @@
--- What `run-from` answers, by the one-step relation: the last state is the state after the steps taken, every state up to it fits,
--- the steps are within the grant, and the end is the first that holds there. Only one answer is so. Both by induction on the grant:
+-- What `run-from` answers, by the one-step relation: the last state is the state after the steps taken, which are so many of each kind,
+-- every state up to it fits, the steps are within the grant, and the end is the first that holds there. Only one answer is so. Both by induction on the grant:
 -- the states after the first step are the states of the term that it gives.
 use Prim.Native.Nat.{ℕ, zero, suc, _≤_}
 use mathlib.Core.Path.{_≡_, refl, sym, _∙_, ap, subst}
@@ -9,15 +9,19 @@ use native.Mathlib.Omega.{arith}
 use Rattle.calculus.specs.Term.{Term, size}
 use Rattle.calculus.specs.Words.{longest}
 use Rattle.calculus.specs.Rules.{_⟶_}
+use Rattle.calculus.specs.Kinds.{kind, Counts, counts, counting, total, Counted, counted-none}
 use Rattle.calculus.specs.Step.{Next, next}
 use Rattle.calculus.specs.Run.{State, state-zero, state-suc, End, Ends, ends-spent, ends-value, ends-stuck, ends-long, Ended, done, one-more, advance, run-from}
 use Rattle.calculus.proofs.Comparisons.{le-leb, gt-leb}
 use Rattle.calculus.proofs.Reduction.{determinism}
+use Rattle.calculus.proofs.Counting.{total-counting, counted-after, First, first, first-step, none-counted, counts-of-states, state-after, state-first}
 use Rattle.calculus.proofs.Stepping.{Finds, finds-value, finds-stuck, finds-next, step-finds, step-next, value-step, stuck-step}
 
--- A run of `t` with the grant `g` ends by E after `n` steps at `x`.
-pub record Course (g : ℕ) (t : Term) (E : End) (n : ℕ) (x : Term) : Type 0 where
+-- A run of `t` with the grant `g` ends by E at `x`, after `n` steps, which are `c` by kind.
+pub record Course (g : ℕ) (t : Term) (E : End) (n : ℕ) (c : Counts) (x : Term) : Type 0 where
   pub last : State t n x
+  pub counted : Counted t c x
+  pub adds : total c ≡ n
   pub bounded : (k : ℕ) (y : Term) → k ≤ n → State t k y → size y ≤ longest
   pub within : n ≤ g
   pub ends : Ends g n x E
@@ -26,22 +30,6 @@ pub state-unique : {t : Term} {k : ℕ} {x y : Term} → State t k x → State t
 state-unique state-zero state-zero = refl
 state-unique (state-suc h s) (state-suc {y = y} k r) = determinism s (subst (λ z. z ⟶ y) (sym (state-unique h k)) r)
 
--- A first step before a state,
-state-after : {t t′ : Term} {k : ℕ} {x : Term} → t ⟶ t′ → State t′ k x → State t (suc k) x
-state-after s state-zero = state-suc state-zero s
-state-after s (state-suc h r) = state-suc (state-after s h) r
-
--- and the first step of a state.
-data First (t : Term) (k : ℕ) (x : Term) : Type 0 where
-  first : {t′ : Term} → t ⟶ t′ → State t′ k x → First t k x
-
-first-step : {t : Term} (k : ℕ) {x : Term} → State t (suc k) x → First t k x
-first-step zero (state-suc state-zero s) = first s state-zero
-first-step (suc k) (state-suc h s) = later (first-step k h) s
-  where
-    later : {t x y : Term} → First t k x → x ⟶ y → First t (suc k) y
-    later (first r h) s = first r (state-suc h s)
-
 ends-later : {g n : ℕ} {x : Term} {E : End} → Ends g n x E → Ends (suc g) (suc n) x E
 ends-later (ends-spent e) = ends-spent (ap suc e)
 ends-later (ends-value h v) = ends-value (omega arith) v
@@ -49,32 +37,46 @@ ends-later (ends-stuck h v s) = ends-stuck (omega arith) v s
 ends-later (ends-long h s l) = ends-long (omega arith) s l
 
 -- A run that ends where it begins,
-course-here : {g : ℕ} {t : Term} {E : End} → size t ≤ longest → Ends g 0 t E → Course g t E 0 t
-course-here {t} h e = record { last = state-zero; bounded = λ k y. only k; within = omega arith; ends = e }
+course-here : {g : ℕ} {t : Term} {E : End} → size t ≤ longest → Ends g 0 t E → Course g t E 0 (counts 0 0 0) t
+unfolding total
+course-here {t} h e =
+    record {
+      last = state-zero;
+      counted = counted-none;
+      adds = refl;
+      bounded = λ k y. only k;
+      within = omega arith;
+      ends = e;
+    }
   where
     only : (k : ℕ) {y : Term} → k ≤ 0 → State t k y → size y ≤ longest
     only zero l state-zero = h
     only (suc k) l s = absurd (omega arith)
 
 -- and one that steps first.
-course-after : {g n : ℕ} {t t′ x : Term} {E : End} → size t ≤ longest → t ⟶ t′ → Course g t′ E n x → Course (suc g) t E (suc n) x
-course-after {n} {t} {t′} h s c =
+course-after : {g n : ℕ} {c : Counts} {t t′ x : Term} {E : End}
+    → size t ≤ longest
+    → (s : t ⟶ t′)
+    → Course g t′ E n c x
+    → Course (suc g) t E (suc n) (counting (kind s) c) x
+course-after {n} {c} {t} {t′} h s r =
     record {
-      last = state-after s (c .last);
+      last = state-after s (r .last);
+      counted = counted-after s (r .counted);
+      adds = total-counting (kind s) c ∙ ap suc (r .adds);
       bounded = λ k y. all k;
-      within = omega (arith, c .within);
-      ends = ends-later (c .ends);
+      within = omega (arith, r .within);
+      ends = ends-later (r .ends);
     }
   where
     all : (k : ℕ) {y : Term} → k ≤ suc n → State t k y → size y ≤ longest
     all zero l state-zero = h
-    all (suc k) {y} l r = on (first-step k r)
-      where
-        on : First t k y → size y ≤ longest
-        on (first {t′ = u} s′ r) = c .bounded k y (le-of-suc-le-suc l) (subst (λ z. State z k y) (determinism s′ s) r)
+    all (suc k) {y} l h =
+        let (u, s′, h′) = state-first k h in
+        r .bounded k y (le-of-suc-le-suc l) (subst (λ z. State z k y) (determinism s′ s) h′)
 
 abbrev pub Answered : ℕ → Term → Ended → Type 0
-Answered g t r = Course g t (r .end) (r .steps) (r .state)
+Answered g t r = Course g t (r .end) (r .steps) (r .counts) (r .state)
 
 advance-course : {g : ℕ} {t : Term} {m : Next} (go : Term → Ended)
     → size t ≤ longest
@@ -84,10 +86,10 @@ advance-course : {g : ℕ} {t : Term} {m : Next} (go : Term → Ended)
 unfolding advance done one-more
 advance-course go h all (finds-value v) = course-here h (ends-value (omega arith) v)
 advance-course go h all (finds-stuck v s) = course-here h (ends-stuck (omega arith) v s)
-advance-course {g} {t} go h all (finds-next {x} s) = on (decLe (size x) longest)
+advance-course {g} {t} go h all (finds-next {k} {x} s e) = on (decLe (size x) longest)
   where
-    on : Dec (size x ≤ longest) → Answered (suc g) t (advance go t (next x))
-    on (yes l) = rw (le-leb (size x) longest l) (course-after h s (all x l))
+    on : Dec (size x ≤ longest) → Answered (suc g) t (advance go t (next k x))
+    on (yes l) = rw (le-leb (size x) longest l, ← e) (course-after h s (all x l))
     on (no l) = rw (gt-leb (size x) longest (omega arith)) (course-here h (ends-long (omega arith) s (omega arith)))
 
 pub run-course : (g : ℕ) (t : Term) → size t ≤ longest → Answered g t (run-from g t)
@@ -114,35 +116,45 @@ ends-before (ends-value h v) = ends-value (omega arith) v
 ends-before (ends-stuck h v s) = ends-stuck (omega arith) v s
 ends-before (ends-long h s l) = ends-long (omega arith) s l
 
-course-rest : {g n : ℕ} {t x : Term} {E : End}
-    → Course (suc g) t E (suc n) x
-    → (t′ : Term) × (t ⟶ t′) × (size t′ ≤ longest) × Course g t′ E n x
-course-rest {g} {n} {t} {x} {E} c = on (first-step n (c .last))
+course-rest : {g n : ℕ} {c : Counts} {t x : Term} {E : End}
+    → Course (suc g) t E (suc n) c x
+    → (t′ : Term) × (s : t ⟶ t′) × (d : Counts) × (counting (kind s) d ≡ c) × (size t′ ≤ longest) × Course g t′ E n d x
+course-rest {g} {n} {c} {t} {x} {E} r = on (first-step n (r .adds) (r .counted))
   where
-    on : First t n x → (t′ : Term) × (t ⟶ t′) × (size t′ ≤ longest) × Course g t′ E n x
-    on (first {t′} s h) = (
-      t′,
-      s,
-      c .bounded 1 t′ (omega arith) (state-suc state-zero s),
-      record {
-        last = h;
-        bounded = λ k y l r. c .bounded (suc k) y (omega arith) (state-after s r);
-        within = le-of-suc-le-suc (c .within);
-        ends = ends-before (c .ends);
-      },
-    )
+    on : First t c x
+        → (t′ : Term) × (s : t ⟶ t′) × (d : Counts) × (counting (kind s) d ≡ c) × (size t′ ≤ longest) × Course g t′ E n d x
+    on (first {t′} {d} s h e) =
+        let many : total d ≡ n = suc-inj (sym (total-counting (kind s) d) ∙ ap total e ∙ r .adds) in (
+          t′,
+          s,
+          d,
+          e,
+          r .bounded 1 t′ (omega arith) (state-suc state-zero s),
+          record {
+            last = counts-of-states t′ n x .1 (d, many, h);
+            counted = h;
+            adds = many;
+            bounded = λ k y l z. r .bounded (suc k) y (omega arith) (state-after s z);
+            within = le-of-suc-le-suc (r .within);
+            ends = ends-before (r .ends);
+          },
+        )
 
-answer-after : (g : ℕ) {t t′ : Term} → t ⟶ t′ → size t′ ≤ longest → run-from (suc g) t ≡ one-more (run-from g t′)
+answer-after : (g : ℕ) {t t′ : Term} (s : t ⟶ t′) → size t′ ≤ longest → run-from (suc g) t ≡ one-more (kind s) (run-from g t′)
 unfolding run-from advance
 answer-after g {t′} s l = rw (step-next s, le-leb (size t′) longest l) refl
 
-pub course-answer : (g : ℕ) {t : Term} {E : End} (n : ℕ) {x : Term} → Course g t E n x → run-from g t ≡ record { end = E; steps = n; state = x }
+pub course-answer : (g : ℕ) {t : Term} {E : End} (n : ℕ) {c : Counts} {x : Term}
+    → Course g t E n c x
+    → run-from g t ≡ record { end = E; steps = n; counts = c; state = x }
 unfolding done one-more
-course-answer g {t} {E} zero c = on (c .last) (c .ends)
+course-answer g {t} {E} zero {c} {x} r = rw (none-counted c (r .adds)) (on (r .last) (r .ends))
   where
-    on : {x : Term} → State t 0 x → Ends g 0 x E → run-from g t ≡ record { end = E; steps = 0; state = x }
+    on : {x : Term} → State t 0 x → Ends g 0 x E → run-from g t ≡ record { end = E; steps = 0; counts = counts 0 0 0; state = x }
     on state-zero e = answer-here g e
-course-answer zero (suc n) c = absurd (omega (arith, c .within))
-course-answer (suc g) (suc n) c =
-    let (t′, s, l, r) = course-rest c in
-    answer-after g s l ∙ ap one-more (course-answer g n r)
+course-answer zero (suc n) r = absurd (omega (arith, r .within))
+course-answer (suc g) {E} (suc n) {x} r =
+    let (t′, s, d, e, l, rest) = course-rest r in
+    answer-after g s l
+    ∙ ap (one-more (kind s)) (course-answer g n rest)
+    ∙ ap (λ c. record { end = E; steps = suc n; counts = c; state = x }) e

@@ -84,7 +84,7 @@ module _ {L : ℕ} {Γ : Context} {p : ℕ} {e : Term} where
       on : {x : Next} → Finds τ x → Verdict L Γ p e
       on (finds-value v) = failing (else-fails (λ c. value-rests v (c .1)))
       on (finds-stuck _ n) = failing (else-fails n)
-      on (finds-next {x} s) = rest x s
+      on (finds-next {x = x} s k) = rest x s
 
   -- τ fits the limit.
   fits-limit : (τ : Term)

@@ -26,6 +26,7 @@ pub mod Completeness
 pub mod Inference
 pub mod Limits
 pub mod Refusals
+pub mod Counting
 pub mod Courses
 pub mod CheckDemand
 pub mod Acceptance

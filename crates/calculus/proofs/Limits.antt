@@ -73,7 +73,7 @@ module _ {n : ℕ} (p : ℕ) (here : p ≤ n) where
       on : (x : Next) → Numbered n (stepped p x)
       on value = says-refused (lit≤ tt, lit≤ tt, here)
       on stuck = says-refused (lit≤ tt, lit≤ tt, here)
-      on (next τ) = says-ok tt
+      on (next k τ) = says-ok tt
 
   fits : {L L′ : ℕ} → L ≤ L′ → (τ : Term) → Keeps n (measure L p τ) (measure L′ p τ)
   unfolding number

@@ -11,10 +11,11 @@ use Rattle.calculus.specs.Term.{Term}
 use Rattle.calculus.specs.Answer.{Answer, ok, refused, _>>=_, _>>_, require, number}
 use Rattle.calculus.specs.Words.{longest}
 use Rattle.calculus.specs.Scan.{read}
+use Rattle.calculus.specs.Kinds.{total}
 use Rattle.calculus.specs.Outcomes.{run-room, Ran, course, ran, run}
-use Rattle.calculus.specs.Runs.{Runs, work-refused, state-refused, unread, ended, Demand2-run, RunRefusals}
+use Rattle.calculus.specs.Runs.{Runs, work-refused, state-refused, unread, ended, Demand2-run, CountsAddUp, RunRefusals}
 use Rattle.calculus.proofs.Comparisons.{le-leb, gt-leb}
-use Rattle.calculus.proofs.Says.{By, Says, says-ok, says-refused, of-refused}
+use Rattle.calculus.proofs.Says.{By, Says, says-ok, says-refused, of-ok, of-refused}
 use Rattle.calculus.proofs.ReadBack.{codes-read, misread-refused, read-sound, refused-misread, misread-numbers}
 use Rattle.calculus.proofs.Courses.{run-course, course-answer}
 
@@ -24,7 +25,7 @@ module _ (ws : List ℕ) (budget allowance : ℕ) (W S : List ℕ) where
   run-answer (work-refused w) = rw (gt-leb run-room (length W) w) refl
   run-answer (state-refused w s) = rw (le-leb run-room (length W) w, gt-leb longest (length S) s) refl
   run-answer (unread w s m) = rw (le-leb run-room (length W) w, le-leb longest (length S) s, misread-refused m) refl
-  run-answer (ended {E} {n} {t} {x} w s c h b l f) =
+  run-answer (ended {n = n} w s c h q a b l f) =
       rw (
         le-leb run-room (length W) w,
         le-leb longest (length S) s,
@@ -32,7 +33,7 @@ module _ (ws : List ℕ) (budget allowance : ℕ) (W S : List ℕ) where
         course-answer
             (min budget allowance)
             n
-            (record { last = h; bounded = b; within = l; ends = f }),
+            (record { last = h; counted = q; adds = a; bounded = b; within = l; ends = f }),
       )
       refl
 
@@ -47,7 +48,7 @@ module _ (ws : List ℕ) (budget allowance : ℕ) (W S : List ℕ) where
       by-reading w s (ok t) e =
           let c = read-sound ws t e in
           let k = run-course (min budget allowance) t (c .1 .short) in
-          (_, ended w s c (k .last) (k .bounded) (k .within) (k .ends))
+          (_, ended w s c (k .last) (k .counted) (k .adds) (k .bounded) (k .within) (k .ends))
       by-reading w s (refused r p) e = (_, unread w s (refused-misread ws r p e))
 
       by-state : run-room ≤ length W → Dec (longest ≤ length S) → Outcome
@@ -65,6 +66,16 @@ pub demand2-run : Demand2-run
 demand2-run ws budget allowance W S c =
     (λ e. subst (Runs ws budget allowance W S) e (run-runs ws budget allowance W S), run-answer ws budget allowance W S)
 
+-- The counts of a run that ended add up.
+pub counts-add-up : CountsAddUp
+counts-add-up ws budget allowance W S s e = of-ok (rw e at (adding (run-runs ws budget allowance W S)))
+  where
+    adding : {c : Ran} → Runs ws budget allowance W S c → Says (λ s. total (s .counts) ≡ s .steps) (λ r p. Unit {0}) (c .answer)
+    adding (work-refused w) = says-refused tt
+    adding (state-refused w s) = says-refused tt
+    adding (unread w s m) = says-refused tt
+    adding (ended w s c k q a b l f) = says-ok a
+
 -- How far the numbers of a refusal reach.
 numbers : {ws : List ℕ} {budget allowance : ℕ} {W S : List ℕ} {c : Ran}
     → Runs ws budget allowance W S c
@@ -73,7 +84,7 @@ unfolding number
 numbers (work-refused w) = says-refused (lit≤ tt, lit≤ tt, zero-le)
 numbers (state-refused w s) = says-refused (lit≤ tt, lit≤ tt, zero-le)
 numbers (unread {r} w s m) = let (l, u, q) = misread-numbers m in says-refused {r = r} (omega arith, u, q)
-numbers (ended w s c k b l f) = says-ok tt
+numbers (ended w s c k q a b l f) = says-ok tt
 
 pub run-numbers : (ws : List ℕ) (budget allowance : ℕ) (W S : List ℕ)
     → Says (λ _. Unit {0}) (By 2 9 longest) (run ws budget allowance W S .answer)

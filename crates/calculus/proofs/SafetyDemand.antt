@@ -57,7 +57,7 @@ safely : {ws : List ℕ} {budget allowance : ℕ} {W S : List ℕ} {t τ : Term}
 safely c d (work-refused w) = work-refused′ w
 safely c d (state-refused w s) = state-refused′ w s
 safely c d (unread w s m) = absurd (coded-not-misread c m)
-safely {t} {τ} c d (ended {E} {n} {t = t′} {x} w s c′ k b l f) =
+safely {t} {τ} c d (ended {E} {n} {t = t′} {x} w s c′ k q a b l f) =
     ended′ w s last f (not-stuck (state-typed d last) f) states
   where
     one : t′ ≡ t

@@ -3,7 +3,7 @@
 use Prim.Native.Nat.{ℕ, zero, suc, _≤_, min}
 use mathlib.Core.Bool.{Bool, true, false, _&&_, decide}
 use mathlib.Core.List.{List, [], _∷_}
-use mathlib.Core.Path.{_≡_, refl, sym, _∙_, ap, ap₂, subst₂}
+use mathlib.Core.Path.{_≡_, refl, sym, _∙_, ap, ap₂, subst}
 use native.Mathlib.Omega.{arith}
 use lib.Dec.{T, leb, eqb, leb→le, eqb→eq}
 use Rattle.calculus.specs.Term.{Term, size, raise, substitute}
@@ -12,6 +12,7 @@ use Rattle.calculus.specs.Words.{emit, words, longest}
 use Rattle.calculus.specs.Meaning.{meaning, binds}
 use Rattle.calculus.specs.Scan.{means, bound, test, node₁, node₂, node, below, scan, the-first, read}
 use Rattle.calculus.specs.Rules.{_⟶_, env-empty}
+use Rattle.calculus.specs.Kinds.{Kind, by-substitution, by-unfolding, by-cancellation, kind, Counts, counts, counting, total, Counted, counted-none, counted-more}
 use Rattle.calculus.specs.Step.{Next, value, stuck, next, under, applied, cancelled, step}
 use Rattle.calculus.specs.Infer.{annotation, same, measure, product, stepped, infer}
 use Rattle.calculus.specs.Run.{State, state-zero, state-suc, ends-spent, End, spent, end-number, Ended, done, one-more, advance, run-from}
@@ -48,22 +49,32 @@ refused-by r p (ok a) = false
 refused-by r p (refused s q) = eqb (number s) (number r) && eqb q p
 
 -- and of a next state, which a term that has none fails.
-on-next : (Term → Bool) → Next → Bool
+on-next : (Kind → Term → Bool) → Next → Bool
 on-next f value = false
 on-next f stuck = false
-on-next f (next x) = f x
+on-next f (next k x) = f k x
 
 allowed : ℕ → Bool
 allowed L = leb 1 L && leb L largest-limit
 
-ended-by : End → ℕ → List ℕ → Ended → Bool
-ended-by E n out r = eqb (end-number (r .end)) (end-number E) && eqb (r .steps) n && same-words (words (r .state)) out
+same-counts : Counts → Counts → Bool
+same-counts c d =
+    eqb (c .substitutions) (d .substitutions) && (eqb (c .unfoldings) (d .unfoldings) && eqb (c .cancellations) (d .cancellations))
+
+ended-by : End → ℕ → Counts → List ℕ → Ended → Bool
+ended-by E n c out r =
+    eqb (end-number (r .end)) (end-number E)
+    && (eqb (r .steps) n && (same-counts (r .counts) c && same-words (words (r .state)) out))
+
+-- A step is an unfolding.
+unfolds : Kind → Bool
+unfolds k = same-counts (counting k (counts 0 0 0)) (counts 0 1 0)
 
 row-holds : Row → Bool
 row-holds (types ws L out) = allowed L && on-answer (λ t. on-answer (λ τ. same-words (words τ) out) (infer L [] 0 t)) (read ws)
 row-holds (refuses ws L r p) = allowed L && on-answer (λ t. refused-by r p (infer L [] 0 t)) (read ws)
-row-holds (ends ws budget E n out) = on-answer (λ t. ended-by E n out (run-from budget t)) (read ws)
-row-holds (spins ws) = on-answer (λ t. on-next (λ x. same-words (words x) (words t)) (step t)) (read ws)
+row-holds (ends ws budget E n c out) = on-answer (λ t. ended-by E n c out (run-from budget t)) (read ws)
+row-holds (spins ws) = on-answer (λ t. on-next (λ k x. unfolds k && same-words (words x) (words t)) (step t)) (read ws)
 
 rows-hold : List Row → Bool
 rows-hold [] = true
@@ -91,11 +102,11 @@ refuses-by r p (refused s q) h =
     let (i, j) = both (eqb (number s) (number r)) (eqb q p) h in
     ap₂ refused (number-injective s r (eqb→eq (number s) (number r) i)) (eqb→eq q p j)
 
-steps-on : (f : Term → Bool) (m : Next) → T (on-next f m) → (x : Term) × (m ≡ next x) × T (f x)
+steps-on : (f : Kind → Term → Bool) (m : Next) → T (on-next f m) → (k : Kind) × (x : Term) × (m ≡ next k x) × T (f k x)
 unfolding on-next
 steps-on f value h = elim h [ ]
 steps-on f stuck h = elim h [ ]
-steps-on f (next x) h = (x, refl, h)
+steps-on f (next k x) h = (k, x, refl, h)
 
 is-allowed : (L : ℕ) → T (allowed L) → Allowed L
 unfolding allowed
@@ -103,15 +114,33 @@ is-allowed L h =
     let (i, j) = both (leb 1 L) (leb L largest-limit) h in
     (leb→le 1 L i, leb→le L largest-limit j)
 
-ends-by : (E : End) (n : ℕ) (out : List ℕ) (r : Ended) → T (ended-by E n out r) → (r .end ≡ E) × (r .steps ≡ n) × (words (r .state) ≡ out)
+equal-counts : (c d : Counts) → T (same-counts c d) → c ≡ d
+unfolding same-counts
+equal-counts c d h =
+    let (i, jk) = both (eqb (c .substitutions) (d .substitutions)) _ h in
+    let (j, k) = both (eqb (c .unfoldings) (d .unfoldings)) _ jk in
+    ap (λ n. counts n (c .unfoldings) (c .cancellations)) (eqb→eq (c .substitutions) (d .substitutions) i)
+    ∙ ap₂ (counts (d .substitutions)) (eqb→eq (c .unfoldings) (d .unfoldings) j) (eqb→eq (c .cancellations) (d .cancellations) k)
+
+ends-by : (E : End) (n : ℕ) (c : Counts) (out : List ℕ) (r : Ended)
+    → T (ended-by E n c out r)
+    → (r .end ≡ E) × (r .steps ≡ n) × (r .counts ≡ c) × (words (r .state) ≡ out)
 unfolding ended-by
-ends-by E n out r h =
-    let (ij, k) = both (eqb (end-number (r .end)) (end-number E) && eqb (r .steps) n) (same-words (words (r .state)) out) h in
-    let (i, j) = both (eqb (end-number (r .end)) (end-number E)) (eqb (r .steps) n) ij in (
+ends-by E n c out r h =
+    let (i, jkl) = both (eqb (end-number (r .end)) (end-number E)) _ h in
+    let (j, kl) = both (eqb (r .steps) n) _ jkl in
+    let (k, l) = both (same-counts (r .counts) c) _ kl in (
       end-number-injective (r .end) E (eqb→eq (end-number (r .end)) (end-number E) i),
       eqb→eq (r .steps) n j,
-      same-words-equal (words (r .state)) out k,
+      equal-counts (r .counts) c k,
+      same-words-equal (words (r .state)) out l,
     )
+
+is-unfolding : (k : Kind) → T (unfolds k) → k ≡ by-unfolding
+unfolding unfolds same-counts counting
+is-unfolding by-substitution h = elim h [ ]
+is-unfolding by-unfolding h = refl
+is-unfolding by-cancellation h = elim h [ ]
 
 -- What a row claims, from what the functions answer.
 types-claim : (ws : List ℕ) (L : ℕ) (out : List ℕ) {t τ : Term}
@@ -137,52 +166,63 @@ refuses-claim ws L r p {t} a e i =
     let f = refused-sound env-empty (c .1 .closed) i in
     (t, c, f, λ n τ d. no-type f n d, λ W O l m. check-answer ws L W O (untyped a l m c f))
 
-ends-claim : (ws : List ℕ) (budget : ℕ) (E : End) (n : ℕ) (out : List ℕ) {t x : Term}
+ends-claim : (ws : List ℕ) (budget : ℕ) (E : End) (n : ℕ) (c : Counts) (out : List ℕ) {t x : Term}
     → read ws ≡ ok t
-    → Course budget t E n x
+    → Course budget t E n c x
     → words x ≡ out
-    → Claim (ends ws budget E n out)
+    → Claim (ends ws budget E n c out)
 unfolding Claim
-ends-claim ws budget E n out {t} {x} e k o =
-    let c = read-sound ws t e in (
+ends-claim ws budget E n c out {t} {x} e k o =
+    let w = read-sound ws t e in (
       t,
       x,
-      c,
+      w,
       sym o,
       k .last,
+      k .counted,
       k .ends,
       λ allowance W S g l m.
           let grant : budget ≡ min budget allowance = omega arith in
           rw
           (← o)
-          (run-answer ws budget allowance W S (ended l m c (k .last) (k .bounded) (rw grant at (k .within)) (rw grant at (k .ends)))),
+          (run-answer ws budget allowance W S (ended l m w (k .last) (k .counted) (k .adds) (k .bounded) (rw grant at (k .within)) (rw grant at (k .ends)))),
     )
 
--- A term that steps to itself is each of its states, so every run of it is spent.
-spinning : {t : Term} → t ⟶ t → (k : ℕ) → State t k t
-spinning s zero = state-zero
-spinning s (suc k) = state-suc (spinning s k) s
+-- A term that unfolds to itself is each of its states, so every run of it is spent, in unfoldings.
+module _ {t : Term} (s : t ⟶ t) (u : kind s ≡ by-unfolding) where
+  spinning : (k : ℕ) → State t k t
+  spinning zero = state-zero
+  spinning (suc k) = state-suc (spinning k) s
 
-spinning-course : {t : Term} → t ⟶ t → size t ≤ longest → (g : ℕ) → Course g t spent g t
-spinning-course s h g =
-    record {
-      last = spinning s g;
-      bounded = λ k y l r. rw (state-unique r (spinning s k)) h;
-      within = omega arith;
-      ends = ends-spent refl;
-    }
+  unfoldings : (k : ℕ) → Counted t (counts 0 k 0) t
+  unfolding counting
+  unfoldings zero = counted-none
+  unfoldings (suc k) = subst (λ j. Counted t (counting j (counts 0 k 0)) t) u (counted-more (unfoldings k) s)
 
-spins-claim : (ws : List ℕ) {t : Term} → read ws ≡ ok t → t ⟶ t → Claim (spins ws)
-unfolding Claim
-spins-claim ws {t} e s =
-    let (w, c) = read-sound ws t e in (
-      t,
-      (w, c),
-      s,
-      λ budget allowance W S l m.
-          let k = spinning-course s (c .short) (min budget allowance) in
-          rw w (run-answer (words t) budget allowance W S (ended l m (refl, c) (k .last) (k .bounded) (k .within) (k .ends))),
-    )
+  spinning-course : size t ≤ longest → (g : ℕ) → Course g t spent g (counts 0 g 0) t
+  unfolding total
+  spinning-course h g =
+      record {
+        last = spinning g;
+        counted = unfoldings g;
+        adds = omega arith;
+        bounded = λ k y l r. rw (state-unique r (spinning k)) h;
+        within = omega arith;
+        ends = ends-spent refl;
+      }
+
+  spins-claim : (ws : List ℕ) → read ws ≡ ok t → Claim (spins ws)
+  unfolding Claim
+  spins-claim ws e =
+      let (w, c) = read-sound ws t e in (
+        t,
+        (w, c),
+        (s, u),
+        λ budget allowance W S l m.
+            let k = spinning-course (c .short) (min budget allowance) in
+            rw w (run-answer (words t) budget allowance W S
+            (ended l m (refl, c) (k .last) (k .counted) (k .adds) (k .bounded) (k .within) (k .ends))),
+      )
 
 -- A row that passes holds.
 row-claim : (r : Row) → T (row-holds r) → Claim r
@@ -196,22 +236,17 @@ row-claim (refuses ws L r p) h =
     let (a, i) = both (allowed L) _ h in
     let (t, e, j) = answers _ (read ws) i in
     refuses-claim ws L r p (is-allowed L a) e (refuses-by r p (infer L [] 0 t) j)
-row-claim (ends ws budget E n out) h =
+row-claim (ends ws budget E n c out) h =
     let (t, e, i) = answers _ (read ws) h in
-    let (p, q, o) = ends-by E n out (run-from budget t) i in
-    ends-claim
-    ws
-    budget
-    E
-    n
-    out
-    e
-    (subst₂ (λ F k. Course budget t F k (run-from budget t .state)) p q (run-course budget t (read-sound ws t e .1 .short)))
-    o
+    let (p, q, k, o) = ends-by E n c out (run-from budget t) i in
+    let course = run-course budget t (read-sound ws t e .1 .short) in
+    ends-claim ws budget E n c out e (rw (p, q, k) at course) o
 row-claim (spins ws) h =
     let (t, e, i) = answers _ (read ws) h in
-    let (x, s, k) = steps-on _ (step t) i in
-    spins-claim ws e (next-step (s ∙ ap next (words-injective x t (same-words-equal (words x) (words t) k))))
+    let (k, x, s, j) = steps-on _ (step t) i in
+    let (u, same) = both (unfolds k) _ j in
+    let (r, kind) = next-step (s ∙ ap (next k) (words-injective x t (same-words-equal (words x) (words t) same))) in
+    spins-claim r (kind ∙ is-unfolding k u) ws e
 
 rows-claim : (rs : List Row) → T (rows-hold rs) → Claims rs
 unfolding Claims rows-hold
@@ -221,7 +256,7 @@ rows-claim (r ∷ rs) h =
     (row-claim r i, rows-claim rs j)
 
 rows : Claims starred × Claims examples
-unfolding rows-hold row-holds same-words on-answer refused-by on-next allowed ended-by read scan test means meaning bound binds node node₁ node₂ below the-first _>>=_ _>>_ require number infer annotation measure product stepped same decide size raise substitute step under applied cancelled words emit run-from advance done one-more end-number
+unfolding rows-hold row-holds same-words on-answer refused-by on-next allowed ended-by same-counts unfolds read scan test means meaning bound binds node node₁ node₂ below the-first _>>=_ _>>_ require number infer annotation measure product stepped same decide size raise substitute step under applied cancelled words emit run-from advance done one-more counting end-number
 rows = (rows-claim starred tt, rows-claim examples tt)
 
 pub starred-terms : StarredTerms

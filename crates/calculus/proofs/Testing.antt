@@ -55,7 +55,7 @@ rests p {τ} n = at (step-finds τ)
     at : {x : Next} → Finds τ x → stepped p x ≡ refused no-step p
     at (finds-value v) = refl
     at (finds-stuck _ _) = refl
-    at (finds-next s) = absurd (n (_, s))
+    at (finds-next s k) = absurd (n (_, s))
 
 pub annotation-of : {Γ : Context} {i : ℕ} {τ : Term} → Γ ∋ i ⦂ τ → annotation Γ i ≡ τ
 unfolding annotation

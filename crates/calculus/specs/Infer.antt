@@ -42,7 +42,7 @@ product p (mu a e) = refused not-product p
 unfoldable pub stepped : ℕ → Next → Answer Term
 stepped p value = refused no-step p
 stepped p stuck = refused no-step p
-stepped p (next τ) = ok τ
+stepped p (next k τ) = ok τ
 
 -- The tests of each node, in the words and the order of "Typing, in checking order".
 unfoldable pub infer : ℕ → Context → ℕ → Term → Answer Term

@@ -5,6 +5,7 @@ pub mod Words
 pub mod Meaning
 pub mod Reading
 pub mod Rules
+pub mod Kinds
 pub mod Limit
 pub mod Failing
 pub mod Scan

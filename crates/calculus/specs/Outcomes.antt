@@ -9,6 +9,7 @@ use Rattle.calculus.specs.Term.{Term, var, star, app, lam, pi, castup, c
 use Rattle.calculus.specs.Answer.{Answer, ok, refused, _>>=_, _>>_, require, number, limit-not-allowed, work-short, output-short}
 use Rattle.calculus.specs.Words.{words, longest}
 use Rattle.calculus.specs.Scan.{read}
+use Rattle.calculus.specs.Kinds.{Counts}
 use Rattle.calculus.specs.Infer.{infer}
 use Rattle.calculus.specs.Run.{End, Ended, run-from}
 
@@ -56,10 +57,11 @@ checked L W O (refused r p) =
 unfoldable pub check : List ℕ → ℕ → List ℕ → List ℕ → Checked
 check ws L W O = checked L W O (verdict ws L W O)
 
--- A run: its end and steps, or the refusal; the allowance left on the desk; and the two lent slices.
+-- A run: its end and its steps, in all and by kind, or the refusal; the allowance left on the desk; and the two lent slices.
 pub record Stop : Type 0 where
   pub end : End
   pub steps : ℕ
+  pub counts : Counts
 
 -- "The run answers its end, the steps taken and the desk with the allowance lowered by exactly those steps."
 pub record Ran : Type 0 where
@@ -80,7 +82,7 @@ course ws grant W S = do
 unfoldable pub ran : ℕ → List ℕ → List ℕ → Answer Ended → Ran
 ran allowance W S (ok e) =
     record {
-      answer = ok (record { end = e .end; steps = e .steps });
+      answer = ok (record { end = e .end; steps = e .steps; counts = e .counts });
       allowance = allowance - e .steps;
       work = cleared run-room W;
       state = begun (words (e .state)) S;

@@ -7,6 +7,7 @@ use lib.Dec.{leb}
 use Rattle.calculus.specs.Term.{Term, size}
 use Rattle.calculus.specs.Words.{longest}
 use Rattle.calculus.specs.Rules.{_⟶_, CanStep, Value}
+use Rattle.calculus.specs.Kinds.{Kind, Counts, counts, counting}
 use Rattle.calculus.specs.Step.{Next, value, stuck, next, step}
 
 -- "State 0 of a run is its term, and state k + 1 is the next state of state k by the one-step rules."
@@ -37,25 +38,26 @@ pub data Ends (g n : ℕ) (x : Term) : End → Type 0 where
   ends-stuck : n < g → ¬ Value x → ¬ CanStep x → Ends g n x at-stuck
   ends-long : {y : Term} → n < g → x ⟶ y → longest < size y → Ends g n x too-long
 
--- What a run comes to: its end, its steps and its last state.
+-- What a run comes to: its end, its steps, in all and by kind, and its last state.
 pub record Ended : Type 0 where
   pub end : End
   pub steps : ℕ
+  pub counts : Counts
   pub state : Term
 
 -- At the state `x`, with no step more.
 unfoldable pub done : End → Term → Ended
-done E x = record { end = E; steps = 0; state = x }
+done E x = record { end = E; steps = 0; counts = counts 0 0 0; state = x }
 
--- The same, begun one step earlier.
-unfoldable pub one-more : Ended → Ended
-one-more r = record { end = r .end; steps = suc (r .steps); state = r .state }
+-- The same, begun one step earlier, which is of some kind.
+unfoldable pub one-more : Kind → Ended → Ended
+one-more k r = record { end = r .end; steps = suc (r .steps); counts = counting k (r .counts); state = r .state }
 
 -- The run on from the state `x`, by its next state; `go` is the run within one step less.
 unfoldable pub advance : (Term → Ended) → Term → Next → Ended
 advance go x value = done at-value x
 advance go x stuck = done at-stuck x
-advance go x (next y) = cond (leb (size y) longest) (one-more (go y)) (done too-long x)
+advance go x (next k y) = cond (leb (size y) longest) (one-more k (go y)) (done too-long x)
 
 -- The run from the state `x` within a grant.
 unfoldable pub run-from : ℕ → Term → Ended

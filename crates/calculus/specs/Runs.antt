@@ -1,4 +1,5 @@
--- DEMAND 2 for runs: "A run's states and step count are those of the published one-step relation."
+-- DEMAND 2 for runs: "A run's states and step count are those of the published one-step relation", and so are the counts by kind of
+-- document 02, 2.1.
 use Prim.Native.Nat.{ℕ, _≤_, _<_, _-_, min}
 use mathlib.Core.List.{List}
 use mathlib.Core.Path.{_≡_}
@@ -8,8 +9,9 @@ use Rattle.calculus.specs.Term.{Term, size}
 use Rattle.calculus.specs.Answer.{ok, refused, Reason, number, work-short, output-short}
 use Rattle.calculus.specs.Words.{words, Codes, longest}
 use Rattle.calculus.specs.Reading.{Misread}
+use Rattle.calculus.specs.Kinds.{Counts, total, Counted}
 use Rattle.calculus.specs.Run.{State, End, Ends}
-use Rattle.calculus.specs.Outcomes.{run-room, begun, cleared, Ran, run}
+use Rattle.calculus.specs.Outcomes.{run-room, begun, cleared, Stop, Ran, run}
 
 -- `Runs ws budget allowance W S c`: a run of the words `ws`, with the working slice W and the state slice S, leaves `c`.
 pub data Runs (ws : List ℕ) (budget allowance : ℕ) (W S : List ℕ) : Ran → Type 0 where
@@ -20,21 +22,32 @@ pub data Runs (ws : List ℕ) (budget allowance : ℕ) (W S : List ℕ) : Ran �
   unread : {r : Reason} {p : ℕ} → run-room ≤ length W → longest ≤ length S → Misread ws r p
       → Runs ws budget allowance W S (record { answer = refused r p; allowance = allowance; work = W; state = S })
   -- "A run that answers n steps has the states 0 to n; state n is the one with which its state slice then begins, and its end is the
-  -- first under Calls that holds there."
-  ended : {E : End} {n : ℕ} {t x : Term} → run-room ≤ length W → longest ≤ length S
-      → Codes ws t → State t n x → ((k : ℕ) (y : Term) → k ≤ n → State t k y → size y ≤ longest)
+  -- first under Calls that holds there." "Each count is the number of such steps in the definition, and the three add up to the
+  -- total."
+  ended : {E : End} {n : ℕ} {c : Counts} {t x : Term} → run-room ≤ length W → longest ≤ length S
+      → Codes ws t → State t n x → Counted t c x → total c ≡ n
+      → ((k : ℕ) (y : Term) → k ≤ n → State t k y → size y ≤ longest)
       → n ≤ min budget allowance → Ends (min budget allowance) n x E
       → Runs ws budget allowance W S (record {
-        answer = ok (record { end = E; steps = n });
+        answer = ok (record { end = E; steps = n; counts = c });
         allowance = allowance - n;
         work = cleared run-room W;
         state = begun (words x) S;
       })
 
--- Answer, steps, desk and every word of both slices, of every run.
+-- Answer, steps, counts, desk and every word of both slices, of every run.
 abbrev pub Demand2-run : Type 0
 Demand2-run = (ws : List ℕ) (budget allowance : ℕ) (W S : List ℕ) (c : Ran)
     → (run ws budget allowance W S ≡ c) ↔ Runs ws budget allowance W S c
+
+-- Of every run that ends, the three counts add up to the steps.
+abbrev pub CountsAddUp : Type 0
+CountsAddUp = (ws : List ℕ) (budget allowance : ℕ) (W S : List ℕ) (s : Stop)
+    → run ws budget allowance W S .answer ≡ ok s → total (s .counts) ≡ s .steps
+
+-- The states with counts are the states, and the total of the counts is the number of the state.
+abbrev pub CountsOfStates : Type 0
+CountsOfStates = (t : Term) (k : ℕ) (x : Term) → State t k x ↔ ((c : Counts) × (total c ≡ k) × Counted t c x)
 
 -- "A check refuses by 1–16, a run by 2–9."
 abbrev pub RunRefusals : Type 0

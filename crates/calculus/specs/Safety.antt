@@ -8,6 +8,7 @@ use Rattle.calculus.specs.Term.{Term, star, lam, pi, castup, size}
 use Rattle.calculus.specs.Answer.{Answer, ok, refused, work-short, output-short}
 use Rattle.calculus.specs.Words.{words, Codes, longest}
 use Rattle.calculus.specs.Rules.{Context, _⟶_, CanStep, Value, _⊢_⦂_}
+use Rattle.calculus.specs.Kinds.{Counts}
 use Rattle.calculus.specs.Run.{State, End, at-stuck, Ends}
 use Rattle.calculus.specs.Outcomes.{run-room, check, Ran, Stop, run}
 
@@ -26,10 +27,10 @@ pub record Safe (τ x : Term) : Type 0 where
 pub data Safely (t τ : Term) (grant : ℕ) (W S : List ℕ) : Answer Stop → Type 0 where
   work-refused : length W < run-room → Safely t τ grant W S (refused work-short 0)
   state-refused : run-room ≤ length W → length S < longest → Safely t τ grant W S (refused output-short 0)
-  ended : {E : End} {n : ℕ} {x : Term} → run-room ≤ length W → longest ≤ length S
+  ended : {E : End} {n : ℕ} {c : Counts} {x : Term} → run-room ≤ length W → longest ≤ length S
       → State t n x → Ends grant n x E → E ≢ at-stuck
       → ((k : ℕ) → k ≤ n → (y : Term) × Only (State t k) y × (size y ≤ longest) × Safe τ y)
-      → Safely t τ grant W S (ok (record { end = E; steps = n }))
+      → Safely t τ grant W S (ok (record { end = E; steps = n; counts = c }))
 
 -- Demand 3 of one run `r`: for every check that accepts the words, at any allowed limit.
 abbrev pub SafeRun : List ℕ → ℕ → ℕ → List ℕ → List ℕ → Ran → Type 0

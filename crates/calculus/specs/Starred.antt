@@ -10,6 +10,7 @@ use Rattle.calculus.specs.Term.{Term}
 use Rattle.calculus.specs.Answer.{ok, refused, Reason, not-star, not-product, wrong-argument, no-step, wrong-cast, wrong-recursion, over-limit}
 use Rattle.calculus.specs.Words.{words, Codes, longest}
 use Rattle.calculus.specs.Rules.{_⟶_, _⊢_⦂_}
+use Rattle.calculus.specs.Kinds.{by-unfolding, kind, Counts, counts, Counted}
 use Rattle.calculus.specs.Limit.{_⊢⟨_⟩_⦂_}
 use Rattle.calculus.specs.Failing.{Fails}
 use Rattle.calculus.specs.Run.{State, End, at-value, at-stuck, spent, too-long, Ends}
@@ -20,9 +21,9 @@ pub data Row : Type 0 where
   -- words and limit; the type's words, or the reason and the place
   types : List ℕ → ℕ → List ℕ → Row
   refuses : List ℕ → ℕ → Reason → ℕ → Row
-  -- words and budget; the end, the steps and the last state's words
-  ends : List ℕ → ℕ → End → ℕ → List ℕ → Row
-  -- words of which "every run is spent, in the same state"
+  -- words and budget; the end, the steps, in all and by kind, and the last state's words
+  ends : List ℕ → ℕ → End → ℕ → Counts → List ℕ → Row
+  -- words of which "every run is spent, in the same state", and every step an unfolding
   spins : List ℕ → Row
 
 -- What a row claims: by the rules first, and then of the call, for all long enough slices.
@@ -34,18 +35,19 @@ Claim (refuses ws L r p) = (t : Term) × Codes ws t × Fails L [] 0 t r p
     × (r ≢ over-limit → (τ : Term) → [] ⊢ t ⦂ τ → ⊥)
     × ((W O : List ℕ) → check-room L ≤ length W → L ≤ length O
     → check ws L W O ≡ record { answer = refused r p; work = cleared (check-room L) W; output = O })
-Claim (ends ws budget E n out) = (t : Term) × (x : Term) × Codes ws t × (out ≡ words x) × State t n x × Ends budget n x E
+Claim (ends ws budget E n c out) =
+    (t : Term) × (x : Term) × Codes ws t × (out ≡ words x) × State t n x × Counted t c x × Ends budget n x E
     × ((allowance : ℕ) (W S : List ℕ) → budget ≤ allowance → run-room ≤ length W → longest ≤ length S
     → run ws budget allowance W S ≡ record {
-      answer = ok (record { end = E; steps = n });
+      answer = ok (record { end = E; steps = n; counts = c });
       allowance = allowance - n;
       work = cleared run-room W;
       state = begun out S;
     })
-Claim (spins ws) = (t : Term) × Codes ws t × (t ⟶ t)
+Claim (spins ws) = (t : Term) × Codes ws t × ((s : t ⟶ t) × (kind s ≡ by-unfolding))
     × ((budget allowance : ℕ) (W S : List ℕ) → run-room ≤ length W → longest ≤ length S
     → run ws budget allowance W S ≡ record {
-      answer = ok (record { end = spent; steps = min budget allowance });
+      answer = ok (record { end = spent; steps = min budget allowance; counts = counts 0 (min budget allowance) 0 });
       allowance = allowance - min budget allowance;
       work = cleared run-room W;
       state = begun ws S;
@@ -66,7 +68,7 @@ starred =
     types (0 ∷ []) 64 (0 ∷ [])
     ∷ refuses (1 ∷ 0 ∷ []) 64 no-step 0
     ∷ refuses (2 ∷ 0 ∷ 0 ∷ []) 64 not-product 0
-    ∷ ends (2 ∷ 0 ∷ 0 ∷ []) 1 at-stuck 0 (2 ∷ 0 ∷ 0 ∷ [])
+    ∷ ends (2 ∷ 0 ∷ 0 ∷ []) 1 at-stuck 0 (counts 0 0 0) (2 ∷ 0 ∷ 0 ∷ [])
     ∷ types (4 ∷ 0 ∷ 16 ∷ []) 64 (5 ∷ 0 ∷ 0 ∷ [])
     ∷ types (6 ∷ 0 ∷ 16 ∷ []) 64 (0 ∷ [])
     ∷ spins (6 ∷ 0 ∷ 16 ∷ [])
@@ -84,11 +86,14 @@ starred =
     ∷ refuses (5 ∷ 0 ∷ 4 ∷ 0 ∷ 16 ∷ []) 64 not-star 2
     -- T_CASTDOWN and S_CASTDOWNUP, and the end at a value: the report program's example
     ∷ types (1 ∷ 3 ∷ 2 ∷ 4 ∷ 0 ∷ 16 ∷ 0 ∷ 0 ∷ []) 32 (0 ∷ [])
-    ∷ ends (1 ∷ 3 ∷ 2 ∷ 4 ∷ 0 ∷ 16 ∷ 0 ∷ 0 ∷ []) 1000 at-value 1 (0 ∷ [])
+    ∷ ends (1 ∷ 3 ∷ 2 ∷ 4 ∷ 0 ∷ 16 ∷ 0 ∷ 0 ∷ []) 1000 at-value 1 (counts 0 0 1) (0 ∷ [])
     -- S_APP, S_CASTDOWN and S_MU, and the end with the grant used: a recursion under a down cast, applied
-    ∷ ends (2 ∷ 1 ∷ 6 ∷ 0 ∷ 16 ∷ 0 ∷ []) 3 spent 3 (2 ∷ 1 ∷ 6 ∷ 0 ∷ 16 ∷ 0 ∷ [])
+    ∷ ends (2 ∷ 1 ∷ 6 ∷ 0 ∷ 16 ∷ 0 ∷ []) 3 spent 3 (counts 0 3 0) (2 ∷ 1 ∷ 6 ∷ 0 ∷ 16 ∷ 0 ∷ [])
     -- S_BETA, and the end before a state over 1,024 words: a recursion of 51 words whose next state would have 1,299
-    ∷ ends (2 ∷ 4 ∷ 0 ∷ 6 ∷ 0 ∷ self-applied ++ 0 ∷ []) 1000 too-long 1 (6 ∷ 0 ∷ self-applied)
+    ∷ ends (2 ∷ 4 ∷ 0 ∷ 6 ∷ 0 ∷ self-applied ++ 0 ∷ []) 1000 too-long 1 (counts 1 0 0) (6 ∷ 0 ∷ self-applied)
+    -- every kind of step, so many times that no count is another's: a cancelled cast and two unfoldings under S_APP, a substitution,
+    -- and a cancelled cast under S_CASTDOWN and one alone
+    ∷ ends (2 ∷ 1 ∷ 3 ∷ 0 ∷ 6 ∷ 0 ∷ 6 ∷ 0 ∷ 4 ∷ 0 ∷ 1 ∷ 1 ∷ 3 ∷ 0 ∷ 3 ∷ 0 ∷ 0 ∷ 0 ∷ []) 1000 at-value 6 (counts 1 2 3) (0 ∷ [])
     ∷ []
 
 -- Every row of the table holds.

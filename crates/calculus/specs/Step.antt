@@ -1,24 +1,25 @@
--- One step as a function. Believed only through the theorem that it is the relation of `Rules`.
+-- One step as a function. Believed only through the theorem that it is the relation of `Rules`, and tells the step's kind.
 use Rattle.calculus.specs.Term.{Term, var, star, app, lam, pi, castup, castdown, mu, substitute}
+use Rattle.calculus.specs.Kinds.{Kind, by-substitution, by-unfolding, by-cancellation}
 
--- What a term does: it is a value, it is stuck, or it has a next state.
+-- What a term does: it is a value, it is stuck, or it has a next state, by a step of some kind.
 pub data Next : Type 0 where
   value : Next
   stuck : Next
-  next : Term → Next
+  next : Kind → Term → Next
 
 -- The next state under a constructor `c`; where there is none, what the constructor itself does.
 unfoldable pub under : (Term → Term) → Next → Next → Next
 under c otherwise value = otherwise
 under c otherwise stuck = otherwise
-under c otherwise (next e) = next (c e)
+under c otherwise (next k e) = next k (c e)
 
 -- S_BETA, where the function is an abstraction.
 unfoldable pub applied : Term → Term → Next
 applied (var i) u = stuck
 applied star u = stuck
 applied (app f x) u = stuck
-applied (lam a e) u = next (substitute 0 u e)
+applied (lam a e) u = next by-substitution (substitute 0 u e)
 applied (pi a b) u = stuck
 applied (castup a e) u = stuck
 applied (castdown e) u = stuck
@@ -31,7 +32,7 @@ cancelled star = stuck
 cancelled (app f u) = stuck
 cancelled (lam a e) = stuck
 cancelled (pi a b) = stuck
-cancelled (castup a e) = next e
+cancelled (castup a e) = next by-cancellation e
 cancelled (castdown e) = stuck
 cancelled (mu a e) = stuck
 
@@ -44,4 +45,4 @@ step (lam a e) = value
 step (pi a b) = value
 step (castup a e) = value
 step (castdown e) = under castdown (cancelled e) (step e)
-step (mu a e) = next (substitute 0 (mu a e) e)
+step (mu a e) = next by-unfolding (substitute 0 (mu a e) e)

@@ -3,7 +3,7 @@
 -- Whatever equals the outcome has demand 3, which the outcome has.
 use Prim.Native.Nat.{ℕ, _-_, _≤_, min}
 use mathlib.Core.List.{List}
-use mathlib.Core.Path.{_≡_, sym, _∙_, ap, subst}
+use mathlib.Core.Path.{_≡_, refl, sym, _∙_, subst}
 use native.Mathlib.Omega.{arith}
 use lib.Dec.{lit≤}
 use lib.ListN.{length}
@@ -26,7 +26,7 @@ use Rattle.reduction.proofs.Begun.{cleared-same}
 pub steps-within : (grant : ℕ) {t : Term} {W : List ℕ} {c : Course} {after : List ℕ}
     → Readable t
     → Performs (run-from grant t) W c after
-    → c .steps ≤ grant
+    → c .steps .total ≤ grant
 steps-within grant {t} r p = omega (arith, p .steps, run-course grant t (r .short) .within)
 
 module _ (ws : List ℕ) (budget allowance : ℕ) (W S : List ℕ) where
@@ -54,9 +54,6 @@ module _ (ws : List ℕ) (budget allowance : ℕ) (W S : List ℕ) where
         let state = begun (words (q .state)) S in
         let same = cleared-same run-room longest after W (lit≤ tt) (p .behind) in
         meets
-        (run-answer ws budget allowance W S (ended w s (h, r) (k .last) (k .bounded) (k .within) (k .ends))
-        ∙ ap (λ E. left E (q .steps) allowance W state) (sym (p .end))
-        ∙ ap (λ n. left (end-of (c .end)) n allowance W state) (sym (p .steps))
-        ∙ ap (λ work. record { answer = ok (record { end = end-of (c .end); steps = c .steps }); allowance = allowance - c .steps; work = work; state = state })
-        (sym same)
+        (run-answer ws budget allowance W S (ended w s (h, r) (k .last) (k .counted) (k .adds) (k .bounded) (k .within) (k .ends))
+        ∙ rw (← p .end, ← p .steps, ← p .counts, ← same) refl
         ∙ sym e)

@@ -33,7 +33,15 @@ end-of-injective a b e = sym (variant-found a) ∙ ap variant e ∙ variant-foun
 
 answer-of-injective : (r s : Ran) → answer-of r ≡ answer-of s → r ≡ s
 answer-of-injective (ran.Ended a m) (ran.Ended b n) e =
-    ap₂ (λ E k. ran.Ended E (record { total = k })) (end-of-injective a b (ap (λ x. x .end) (stop e))) (ap (λ x. x .steps) (stop e))
+    ap₂ ran.Ended (end-of-injective a b (ap (λ x. x .end) (stop e)))
+    (ap
+    (λ x. record {
+      total = x .steps;
+      substitutions = x .counts .substitutions;
+      unfoldings = x .counts .unfoldings;
+      cancellations = x .counts .cancellations;
+    })
+    (stop e))
   where
     stop : {x y : Stop} → _≡_ {A = Answer Stop} (ok x) (ok y) → x ≡ y
     stop e = cc e

@@ -20,6 +20,7 @@ use Rattle.calculus.proofs.Scoping.{scoped-more, step-scoped}
 use Rattle.reduction.specs.Writing.{Writes}
 use Rattle.reduction.specs.Stepping.{CodesWithin, Arrives, Steps}
 use Rattle.reduction.specs.declared.copying.Room.{Room}
+use Rattle.reduction.specs.declared.stepping.Kind.{Kind}
 use Rattle.reduction.specs.declared.stepping.Stepped.{Stepped}
 use Rattle.reduction.specs.declared.stepping.Stepped.the-variants as stepped
 use Rattle.evaluation.specs.Courses.{Spells, Holds, Advances}
@@ -79,15 +80,15 @@ module _ {work : List ℕ} {count : ℕ} {x : Term}
   same : room ≡ take longest work → Holds (room ++ drop longest work) count x
   same e = subst (λ w. Holds w count x) (sym (ap (λ l. l ++ drop longest work) e ∙ take-append-drop longest work)) h
 
-  arrived : {r : Stepped} {y : Term}
+  arrived : {K : Kind} {r : Stepped} {y : Term}
       → x ⟶ y
-      → Arrives (words y) (take longest work) r room
+      → Arrives K (words y) (take longest work) r room
       → size y ≤ longest
-      → (r ≡ stepped.To (size y)) × Holds (room ++ drop longest work) (size y) y
-  arrived {y} s a l =
+      → (r ≡ stepped.To K (size y)) × Holds (room ++ drop longest work) (size y) y
+  arrived {K} {y} s a l =
       let n : length (take longest work) ≡ longest = length-take-le longest work all in
       let f = a .fits (omega (arith, words-length y)) in (
-        f .0 ∙ ap stepped.To (words-length y),
+        f .0 ∙ ap (stepped.To K) (words-length y),
         record {
           front =
               record {
@@ -103,7 +104,7 @@ module _ {work : List ℕ} {count : ℕ} {x : Term}
         },
       )
 
-  overflowed : (y : Term) {r : Stepped} → Arrives (words y) (take longest work) r room → longest < size y → r ≡ stepped.Full
+  overflowed : (y : Term) {K : Kind} {r : Stepped} → Arrives K (words y) (take longest work) r room → longest < size y → r ≡ stepped.Full
   overflowed y a l = a .full (omega (arith, words-length y, length-take-le longest work all))
 
   -- The next state fits, or there is none.
@@ -120,7 +121,8 @@ module _ {work : List ℕ} {count : ℕ} {x : Term}
           → Advances n work count x r (room ++ drop longest work)
       on calculus.value e s = (s .0, same (s .1), behind)
       on calculus.stuck e s = (s .0, same (s .1), behind)
-      on (calculus.next y) e s = (arrived (next-step e) s, λ l. absurd (differs (overflowed y s l)), behind)
+      on (calculus.next k y) e (K, kind, s) =
+          (K, kind, arrived (next-step e .0) s, λ l. absurd (differs (overflowed y s l)), behind)
 
   -- It does not fit, and the copy of `x` is stored again.
   pub restored : {r : Stepped} {again : List ℕ}
@@ -135,8 +137,10 @@ module _ {work : List ℕ} {count : ℕ} {x : Term}
       on : (n : calculus.Next) → calculus.step x ≡ n → Steps n (take longest work) r room → Advances n work count x r again
       on calculus.value e s = absurd (true≢false (cc (s .0, full)))
       on calculus.stuck e s = absurd (true≢false (cc (s .0, full)))
-      on (calculus.next y) e s = (
-        λ l. absurd (true≢false (cc (arrived (next-step e) s l .0, full))),
+      on (calculus.next k y) e (K, kind, s) = (
+        K,
+        kind,
+        λ l. absurd (true≢false (cc (arrived (next-step e .0) s l .0, full))),
         λ l. (full, held),
         back ∙ behind,
       )

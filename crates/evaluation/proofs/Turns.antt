@@ -5,40 +5,60 @@ use Prim.Native.Nat.{ℕ, suc, _+_, _-_, _<_, _≤_}
 use mathlib.Core.List.{List}
 use mathlib.Core.Path.{_≡_, refl, sym, _∙_, ap, subst}
 use native.Mathlib.Decide.{decLe}
-use native.Mathlib.Nat.{zero-add, add-zero, sub-zero}
+use native.Mathlib.Nat.{zero-add, add-zero, sub-zero, add-suc, suc-add}
 use native.Mathlib.Omega.{arith}
 use lib.ListN.{drop}
 use Rattle.calculus.specs.Term.{Term, size}
 use Rattle.calculus.specs.Words.{longest}
+use Rattle.calculus.specs.Kinds.{Kind, by-substitution, by-unfolding, by-cancellation, Counts, counts, counting}
 use Rattle.calculus.specs.Step as calculus
 use Rattle.calculus.specs.Run.{at-value, at-stuck, too-long, Ended, done, one-more, run-from}
 use Rattle.calculus.specs.Run as run
 use Rattle.calculus.proofs.Comparisons.{le-leb, gt-leb}
+use Rattle.reduction.specs.declared.stepping.Kind as code
 use Rattle.reduction.specs.declared.stepping.Stepped.{Stepped}
 use Rattle.reduction.specs.declared.stepping.Stepped.the-variants as stepped
 use Rattle.evaluation.specs.declared.End.{End}
 use Rattle.evaluation.specs.declared.End.the-variants as end
+use Rattle.reduction.specs.Stepping.{kind-of}
+use Rattle.evaluation.specs.declared.Steps.{Steps}
 use Rattle.evaluation.specs.Courses.{Holds, Advances, Performs}
-use Rattle.evaluation.specs.Outcomes.{end-of}
+use Rattle.evaluation.specs.Outcomes.{counts-of, end-of}
 
--- With `n` steps more.
-abbrev pub later : ℕ → Ended → Ended
-later n e = record { end = e .end; steps = n + e .steps; state = e .state }
+-- The steps before and those behind, kind by kind.
+abbrev both : Counts → Counts → Counts
+both c d = counts (c .substitutions + d .substitutions) (c .unfoldings + d .unfoldings) (c .cancellations + d .cancellations)
+
+-- A step is the last of those before or the first of those behind.
+both-counting : (k : Kind) (c d : Counts) → both c (counting k d) ≡ both (counting k c) d
+unfolding counting
+both-counting by-substitution c d = rw (add-suc (c .substitutions) (d .substitutions), suc-add (c .substitutions) (d .substitutions)) refl
+both-counting by-unfolding c d = rw (add-suc (c .unfoldings) (d .unfoldings), suc-add (c .unfoldings) (d .unfoldings)) refl
+both-counting by-cancellation c d = rw (add-suc (c .cancellations) (d .cancellations), suc-add (c .cancellations) (d .cancellations)) refl
+
+-- With these steps more.
+abbrev pub later : Steps → Ended → Ended
+later s e = record { end = e .end; steps = s .total + e .steps; counts = both (counts-of s) (e .counts); state = e .state }
 
 -- After `taken` of the steps granted to a run of `t`, its state stands at the front of the working slice.
-pub record Reaches (grant taken : ℕ) (t : Term) (work : List ℕ) (count : ℕ) : Type 0 where
+pub record Reaches (grant : ℕ) (taken : Steps) (t : Term) (work : List ℕ) (count : ℕ) : Type 0 where
   pub state : Term
   pub holds : Holds work count state
-  pub course : run-from grant t ≡ later taken (run-from (grant - taken) state)
+  pub course : run-from grant t ≡ later taken (run-from (grant - taken .total) state)
 
-pub reaches-first : {grant : ℕ} {t : Term} {work : List ℕ} {count : ℕ} → Holds work count t → Reaches grant 0 t work count
+abbrev pub none : Steps
+none = record { total = 0; substitutions = 0; unfoldings = 0; cancellations = 0 }
+
+pub reaches-first : {grant : ℕ} {t : Term} {work : List ℕ} {count : ℕ} → Holds work count t → Reaches grant none t work count
 reaches-first {grant} {t} h =
+    let r = run-from grant t in
     record {
       state = t;
       holds = h;
       course =
-          ap (λ n. record { end = run-from grant t .end; steps = n; state = run-from grant t .state }) (sym (zero-add (run-from grant t .steps)))
-          ∙ ap (λ n. later 0 (run-from n t)) (sym (sub-zero grant));
+          rw
+          (sub-zero grant, zero-add (r .steps), zero-add (r .counts .substitutions), zero-add (r .counts .unfoldings), zero-add (r .counts .cancellations))
+          refl;
     }
 
 -- What the answer of a step from `x` says of the run from there with one step more than `g` granted, and what then stands at
@@ -47,7 +67,8 @@ Turned : ℕ → Term → ℕ → List ℕ → Stepped → Type 0
 Turned g x count after stepped.Value = (run-from (suc g) x ≡ done at-value x) × Holds after count x
 Turned g x count after stepped.Stuck = (run-from (suc g) x ≡ done at-stuck x) × Holds after count x
 Turned g x count after stepped.Full = (run-from (suc g) x ≡ done too-long x) × Holds after count x
-Turned g x count after (stepped.To n) = (y : Term) × (run-from (suc g) x ≡ one-more (run-from g y)) × Holds after n y
+Turned g x count after (stepped.To K n) =
+    (y : Term) × (run-from (suc g) x ≡ one-more (kind-of K) (run-from g y)) × Holds after n y
 
 turned : (g : ℕ) (x : Term) (work : List ℕ) (count : ℕ) (after : List ℕ) (r : Stepped)
     → Advances (calculus.step x) work count x r after
@@ -58,14 +79,14 @@ turned g x work count after r a = on (calculus.step x) refl a
     on : (n : calculus.Next) → calculus.step x ≡ n → Advances n work count x r after → Turned g x count after r
     on calculus.value e a = subst (Turned g x count after) (sym (a .0)) (ap (run.advance (run-from g) x) e, a .1)
     on calculus.stuck e a = subst (Turned g x count after) (sym (a .0)) (ap (run.advance (run-from g) x) e, a .1)
-    on (calculus.next y) e a = by-size (decLe (size y) longest)
+    on (calculus.next k y) e (K, kind, fits, full, rest) = by-size (decLe (size y) longest)
       where
         by-size : Dec (size y ≤ longest) → Turned g x count after r
         by-size (yes l) =
-            let (p, h) = a .0 l in
-            subst (Turned g x count after) (sym p) (y, ap (run.advance (run-from g) x) e ∙ rw (le-leb (size y) longest l) refl, h)
+            let (p, h) = fits l in
+            subst (Turned g x count after) (sym p) (y, ap (run.advance (run-from g) x) e ∙ rw (le-leb (size y) longest l, kind) refl, h)
         by-size (no l) =
-            let (p, h) = a .1 (omega arith) in
+            let (p, h) = full (omega arith) in
             subst (Turned g x count after) (sym p)
             (ap (run.advance (run-from g) x) e ∙ rw (gt-leb (size y) longest (omega arith)) refl, h)
 
@@ -84,10 +105,14 @@ stopped g x count after stops-value h = h
 stopped g x count after stops-stuck h = h
 stopped g x count after stops-long h = h
 
-module _ {grant taken : ℕ} {t : Term} {work : List ℕ} {count : ℕ} (h : Reaches grant taken t work count) where
+module _ {grant : ℕ} {taken : Steps} {t : Term} {work : List ℕ} {count : ℕ} (h : Reaches grant taken t work count) where
+  -- No step behind.
+  alone : (s : Steps) → both (counts-of s) (counts 0 0 0) ≡ counts-of s
+  alone s = rw (add-zero (s .substitutions), add-zero (s .unfoldings), add-zero (s .cancellations)) refl
+
   -- A run that ends at the present state.
   ends : {start after : List ℕ} (E : End) (m : ℕ)
-      → grant - taken ≡ m
+      → grant - taken .total ≡ m
       → run-from m (h .state) ≡ done (end-of E) (h .state)
       → Holds after count (h .state)
       → drop longest after ≡ drop longest start
@@ -96,20 +121,20 @@ module _ {grant taken : ℕ} {t : Term} {work : List ℕ} {count : ℕ} (h : Rea
   ends {start} {after} E m n e k b =
       subst (λ r. Performs r start (record { end = E; steps = taken; length = count }) after)
       (sym (h .course ∙ ap (λ g. later taken (run-from g (h .state))) n ∙ ap (later taken) e))
-      (record { end = refl; steps = sym (add-zero taken); holds = k; behind = b })
+      (record { end = refl; steps = sym (add-zero (taken .total)); counts = sym (alone taken); holds = k; behind = b })
 
   pub performs-spent : {start : List ℕ}
-      → taken ≡ grant
+      → taken .total ≡ grant
       → drop longest work ≡ drop longest start
       → Performs (run-from grant t) start (record { end = end.Spent; steps = taken; length = count }) work
   unfolding run-from
   performs-spent n b = ends end.Spent 0 (omega arith) refl (h .holds) b
 
   -- A turn.
-  module _ (l : taken < grant) (r : Stepped) (after : List ℕ) (a : Advances (calculus.step (h .state)) work count (h .state) r after) where
-    turn : {s : Stepped} → r ≡ s → Turned (grant - (taken + 1)) (h .state) count after s
+  module _ (l : taken .total < grant) (r : Stepped) (after : List ℕ) (a : Advances (calculus.step (h .state)) work count (h .state) r after) where
+    turn : {s : Stepped} → r ≡ s → Turned (grant - (taken .total + 1)) (h .state) count after s
     turn e =
-        subst (Turned (grant - (taken + 1)) (h .state) count after) e (turned (grant - (taken + 1)) (h .state) work count after r a)
+        subst (Turned (grant - (taken .total + 1)) (h .state) count after) e (turned (grant - (taken .total + 1)) (h .state) work count after r a)
 
     pub turn-behind : drop longest after ≡ drop longest work
     unfolding Advances
@@ -118,7 +143,7 @@ module _ {grant taken : ℕ} {t : Term} {work : List ℕ} {count : ℕ} (h : Rea
         on : (n : calculus.Next) → Advances n work count (h .state) r after → drop longest after ≡ drop longest work
         on calculus.value a = a .2
         on calculus.stuck a = a .2
-        on (calculus.next y) a = a .2
+        on (calculus.next k y) a = a .4
 
     pub performs-stop : {start : List ℕ} {s : Stepped} {E : End}
         → Stops s E
@@ -126,16 +151,20 @@ module _ {grant taken : ℕ} {t : Term} {work : List ℕ} {count : ℕ} (h : Rea
         → drop longest work ≡ drop longest start
         → Performs (run-from grant t) start (record { end = E; steps = taken; length = count }) after
     performs-stop {E} o e b =
-        let (p, k) = stopped (grant - (taken + 1)) (h .state) count after o (turn e) in
-        ends E (suc (grant - (taken + 1))) (omega arith) p k (turn-behind ∙ b)
+        let (p, k) = stopped (grant - (taken .total + 1)) (h .state) count after o (turn e) in
+        ends E (suc (grant - (taken .total + 1))) (omega arith) p k (turn-behind ∙ b)
 
-    pub reaches-next : {n : ℕ} → r ≡ stepped.To n → Reaches grant (taken + 1) t after n
+    pub reaches-next : {K : code.Kind} {n : ℕ} (more : Steps)
+        → r ≡ stepped.To K n
+        → more .total ≡ taken .total + 1
+        → counts-of more ≡ counting (kind-of K) (counts-of taken)
+        → Reaches grant more t after n
     unfolding Turned one-more
-    reaches-next e =
+    reaches-next {K} more e many each =
         let (y, p, k) = turn e in
-        let r = run-from (grant - (taken + 1)) y in
-        let n : grant - taken ≡ suc (grant - (taken + 1)) = omega arith in
-        let m : taken + suc (r .steps) ≡ taken + 1 + r .steps = omega arith in
+        let rest = run-from (grant - (taken .total + 1)) y in
+        let n : grant - taken .total ≡ suc (grant - (taken .total + 1)) = omega arith in
+        let m : taken .total + suc (rest .steps) ≡ taken .total + 1 + rest .steps = omega arith in
         record {
           state = y;
           holds = k;
@@ -143,5 +172,5 @@ module _ {grant taken : ℕ} {t : Term} {work : List ℕ} {count : ℕ} (h : Rea
               h .course
               ∙ ap (λ g. later taken (run-from g (h .state))) n
               ∙ ap (later taken) p
-              ∙ ap (λ k. record { end = r .end; steps = k; state = r .state }) m;
+              ∙ rw (m, both-counting (kind-of K) (counts-of taken) (rest .counts), ← each, ← many) refl;
         }

@@ -1,6 +1,7 @@
 // Runs (document 01, Calls): a closed term stepped within a grant, and the desk from which the steps are taken.
 use reduction::clearing::clear;
 use reduction::copying::copy;
+use reduction::stepping::Kind;
 use reduction::stepping::Stepped;
 use reduction::stepping::step;
 use term::reading::Reading;
@@ -8,16 +9,18 @@ use term::reading::read;
 use term::refusal::Reason;
 use term::refusal::Refusal;
 ghost use mathlib.Core.Path.{_≡_};
-ghost use Prim.Native.Nat.{_≤_};
+ghost use Prim.Native.Nat.{_+_, _≤_, _<_};
 ghost use lib.ListN.{length, take};
 ghost use Rattle.calculus.specs.Term.{Term};
 ghost use Rattle.calculus.specs.Words.{Readable, words, longest};
+ghost use Rattle.calculus.specs.Kinds.{counting};
 ghost use Rattle.calculus.specs.Step as calculus;
 ghost use Rattle.calculus.specs.Run.{run-from};
 ghost use Rattle.calculus.specs.Outcomes.{begun, run, run-room};
 ghost use Rattle.calculus.specs.Safety.{SafeRun};
-ghost use Rattle.evaluation.specs.Courses.{Advances, Holds, Performs, ended};
-ghost use Rattle.evaluation.specs.Outcomes.{end-of, ran-of};
+ghost use Rattle.reduction.specs.Stepping.{kind-of};
+ghost use Rattle.evaluation.specs.Courses.{AddUp, Advances, Holds, Performs, ended};
+ghost use Rattle.evaluation.specs.Outcomes.{counts-of, end-of, ran-of};
 
 // The desk of document 01: one allowance of steps.
 pub struct Desk {
@@ -32,9 +35,12 @@ pub enum End {
     Long,
 }
 
-// The steps that a run took.
+// The steps that a run took, in all and by kind.
 pub struct Steps {
     pub total: u32,
+    pub substitutions: u32,
+    pub unfoldings: u32,
+    pub cancellations: u32,
 }
 
 pub enum Ran {
@@ -51,8 +57,29 @@ pub struct Outcome {
 // How a run went: its end, its steps, and the length of the state that stands at the front of the working slice.
 pub struct Course {
     pub end: End,
-    pub steps: u32,
+    pub steps: Steps,
     pub length: usize,
+}
+
+// One step more, of this kind. No count overflows: the three add up to the total, so that each is at most the total, which is
+// below the grant.
+fn counted(mut steps: Steps, kind: Kind) -> Steps
+    requires { ⌜ (steps .total < 4294967295) × AddUp steps ⌝ }
+    ensures { λ r. ⌜ (r .total ≡ steps .total + 1) × (counts-of r ≡ counting (kind-of kind) (counts-of steps)) ⌝ }
+{
+    steps.total += 1;
+    match kind {
+        Kind::Substitution => {
+            steps.substitutions += 1;
+        }
+        Kind::Unfolding => {
+            steps.unfoldings += 1;
+        }
+        Kind::Cancellation => {
+            steps.cancellations += 1;
+        }
+    }
+    steps
 }
 
 // Takes one step of the state at the front of `work`, which stays where the next one does not fit. `copied` is for the moment of
@@ -78,57 +105,62 @@ fn perform(term: &[u16], grant: u32, work: &mut [u16]) -> Course
     let mut copied = [0u16; 1024];
     let mut count = term.len();
     copy(term, work, 0);
-    let mut taken = 0;
-    while taken < grant {
+    let mut steps = Steps {
+        total: 0,
+        substitutions: 0,
+        unfoldings: 0,
+        cancellations: 0,
+    };
+    while steps.total < grant {
         match advance(work, &mut copied, count) {
             Stepped::Value => {
                 return Course {
                     end: End::Value,
-                    steps: taken,
+                    steps,
                     length: count,
                 };
             }
             Stepped::Stuck => {
                 return Course {
                     end: End::Stuck,
-                    steps: taken,
+                    steps,
                     length: count,
                 };
             }
             Stepped::Full => {
                 return Course {
                     end: End::Long,
-                    steps: taken,
+                    steps,
                     length: count,
                 };
             }
-            Stepped::To(next) => {
+            Stepped::To(kind, next) => {
                 count = next;
+                steps = counted(steps, kind);
             }
         }
-        taken += 1;
     }
     Course {
         end: End::Spent,
-        steps: taken,
+        steps,
         length: count,
     }
 }
 
 // Hands over the state that a run reached, clears the working slice and lowers the allowance.
 fn settle(course: Course, work: &mut [u16], state: &mut [u16], desk: Desk) -> Outcome
-    requires { ⌜ (run-room ≤ length (now work)) × (longest ≤ length (now state)) × (course .steps ≤ desk .allowance) × ((x : Term) × Holds (now work) (course .length) x) ⌝ }
+    requires { ⌜ (run-room ≤ length (now work)) × (longest ≤ length (now state)) × (course .steps .total ≤ desk .allowance) × ((x : Term) × Holds (now work) (course .length) x) ⌝ }
     ensures { λ r. ⌜ ((x : Term) → Holds (now (work .entry)) (course .length) x → ran-of r (now (work .exit)) (now (state .exit)) ≡ ended (end-of (course .end)) (course .steps) (desk .allowance) (now (work .entry)) (begun (words x) (now (state .entry)))) ⌝ }
 {
     let count = course.length;
     let end = course.end;
-    let taken = course.steps;
+    let steps = course.steps;
     copy(&work[..count], state, 0);
     clear(work, 8);
     Outcome {
-        answer: Ran::Ended(end, Steps { total: taken }),
+        answer: Ran::Ended(end, steps),
         desk: Desk {
-            allowance: desk.allowance - taken,
+            allowance: desk.allowance - steps.total,
         },
     }
 }

@@ -56,14 +56,36 @@ module _ {c : calculus.Ran} (r : Outcome) {W S : List ℕ} (e : ran-of r W S ≡
   pub ended-numbers : (E : End) (s : Steps) (m : ℕ)
       → r .answer ≡ ran.Ended E s
       → m ≡ end-number (end-of E)
-      → Numbered-run c (record { answer = 0; place = 0; end = m; steps = s .total; allowance = r .desk .allowance }) W S
+      → Numbered-run c
+      (record {
+        answer = 0;
+        place = 0;
+        end = m;
+        steps = s .total;
+        substitutions = s .substitutions;
+        unfoldings = s .unfoldings;
+        cancellations = s .cancellations;
+        allowance = r .desk .allowance;
+      })
+      W S
   unfolding ran-numbers
   ended-numbers E s m h k = rw k (rw h at numbered-run)
 
   pub unrun-numbers : (f : Refusal) (m : ℕ)
       → r .answer ≡ ran.Refused f
       → m ≡ number-of (f .reason)
-      → Numbered-run c (record { answer = m; place = f .place; end = 0; steps = 0; allowance = r .desk .allowance }) W S
+      → Numbered-run c
+      (record {
+        answer = m;
+        place = f .place;
+        end = 0;
+        steps = 0;
+        substitutions = 0;
+        unfoldings = 0;
+        cancellations = 0;
+        allowance = r .desk .allowance;
+      })
+      W S
   unfolding ran-numbers
   unrun-numbers f m h k = rw k (rw h at numbered-run)
 

@@ -4,6 +4,8 @@ use Prim.Native.Nat.{ℕ}
 use mathlib.Core.List.{List}
 use mathlib.Core.Path.{_≡_, sym, ap, ap₂, _∙_}
 use Rattle.calculus.specs.Answer.{Answer, ok, refused}
+use Rattle.calculus.specs.Kinds.{counts}
+use Rattle.calculus.specs.Run.{End}
 use Rattle.calculus.specs.Outcomes.{Stop}
 use Rattle.calculus.specs.Outcomes as calculus
 use Rattle.calculus.proofs.NumberInjective.{number-injective, number-not-zero, end-number-injective}
@@ -23,7 +25,11 @@ checked-numbers-injective (refused r p) (refused s q) e =
 pub ran-numbers-injective : (a b : Answer Stop) (m n : ℕ) → ran-numbers a m ≡ ran-numbers b n → (a ≡ b) × (m ≡ n)
 unfolding ran-numbers
 ran-numbers-injective (ok s) (ok t) m n e =
-    (ap₂ (λ E k. ok (record { end = E; steps = k })) (end-number-injective (s .end) (t .end) (ap (λ x. x .end) e)) (ap (λ x. x .steps) e), ap (λ x. x .allowance) e)
+    let same = end-number-injective (s .end) (t .end) (ap (λ x. x .end) e) in
+    let of-numbers : End → RanNumbers → Answer Stop =
+    λ E x. ok (record { end = E; steps = x .steps; counts = counts (x .substitutions) (x .unfoldings) (x .cancellations) })
+    in
+    (ap₂ of-numbers same e, ap (λ x. x .allowance) e)
 ran-numbers-injective (ok s) (refused r p) m n e = absurd (number-not-zero r (ap (λ x. x .answer) (sym e)))
 ran-numbers-injective (refused r p) (ok s) m n e = absurd (number-not-zero r (ap (λ x. x .answer) e))
 ran-numbers-injective (refused r p) (refused s q) m n e =

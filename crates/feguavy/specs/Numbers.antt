@@ -19,11 +19,30 @@ pub record Numbered-check (c : calculus.Checked) (r : CheckedNumbers) (W O : Lis
   pub work : W ≡ c .work
   pub output : O ≡ c .output
 
--- A run: 0, 0, the end and the steps, or the number of the refusal, its place, 0 and 0; and the allowance left.
+-- A run: 0, 0, the end and the steps, in all and by kind, or the number of the refusal, its place and 0s; and the allowance left.
 unfoldable pub ran-numbers : Answer calculus.Stop → ℕ → RanNumbers
 ran-numbers (ok s) left =
-    record { answer = 0; place = 0; end = end-number (s .end); steps = s .steps; allowance = left }
-ran-numbers (refused r p) left = record { answer = number r; place = p; end = 0; steps = 0; allowance = left }
+    record {
+      answer = 0;
+      place = 0;
+      end = end-number (s .end);
+      steps = s .steps;
+      substitutions = s .counts .substitutions;
+      unfoldings = s .counts .unfoldings;
+      cancellations = s .counts .cancellations;
+      allowance = left;
+    }
+ran-numbers (refused r p) left =
+    record {
+      answer = number r;
+      place = p;
+      end = 0;
+      steps = 0;
+      substitutions = 0;
+      unfoldings = 0;
+      cancellations = 0;
+      allowance = left;
+    }
 
 pub record Numbered-run (c : calculus.Ran) (r : RanNumbers) (W S : List ℕ) : Type 0 where
   pub numbers : r ≡ ran-numbers (c .answer) (c .allowance)

@@ -23,13 +23,17 @@ pub struct CheckedNumbers {
     pub length: u32,
 }
 
-// The answer of a run: 0 with its end and its steps, or the number of the refusal and its place; and the allowance left.
+// The answer of a run: 0 with its end and its steps, in all and by kind, or the number of the refusal and its place; and the
+// allowance left.
 #[repr(C)]
 pub struct RanNumbers {
     pub answer: u32,
     pub place: u32,
     pub end: u32,
     pub steps: u32,
+    pub substitutions: u32,
+    pub unfoldings: u32,
+    pub cancellations: u32,
     pub allowance: u32,
 }
 
@@ -122,6 +126,9 @@ pub extern "C" fn feguavy_run(
             place: 0,
             end: number_of_end(end),
             steps: steps.total,
+            substitutions: steps.substitutions,
+            unfoldings: steps.unfoldings,
+            cancellations: steps.cancellations,
             allowance: left,
         },
         Ran::Refused(refusal) => {
@@ -131,6 +138,9 @@ pub extern "C" fn feguavy_run(
                 place: refusal.place as u32,
                 end: 0,
                 steps: 0,
+                substitutions: 0,
+                unfoldings: 0,
+                cancellations: 0,
                 allowance: left,
             }
         }

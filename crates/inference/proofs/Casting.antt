@@ -6,6 +6,7 @@ use mathlib.Core.Path.{_≡_, refl}
 use Rattle.calculus.specs.Term.{Term, star, castup, castdown, size}
 use Rattle.calculus.specs.Answer.{Answer, ok, refused, _>>=_, _>>_, require, no-step, wrong-cast, over-limit}
 use Rattle.calculus.specs.Rules.{Context}
+use Rattle.calculus.specs.Kinds.{Kind}
 use Rattle.calculus.specs.Step.{next, step}
 use Rattle.calculus.specs.Infer.{infer, same, measure, stepped}
 use Rattle.calculus.proofs.Testing.{equal, unequal, fitting, over}
@@ -24,11 +25,11 @@ module _ (L : ℕ) (Γ : Context) (p q : ℕ) (e : Term) (at : q ≡ suc p) wher
     unfolding _>>=_
     down-rests s = rw (down, f, s) refl
 
-    pub down-over : (x : Term) → step τ ≡ next x → L < size x → infer L Γ p (castdown e) ≡ refused over-limit p
+    pub down-over : {k : Kind} (x : Term) → step τ ≡ next k x → L < size x → infer L Γ p (castdown e) ≡ refused over-limit p
     unfolding _>>=_ stepped
     down-over x s h = rw (down, f, s) (over p x h)
 
-    pub down-typed : (x : Term) → step τ ≡ next x → size x ≤ L → infer L Γ p (castdown e) ≡ ok x
+    pub down-typed : {k : Kind} (x : Term) → step τ ≡ next k x → size x ≤ L → infer L Γ p (castdown e) ≡ ok x
     unfolding _>>=_ stepped
     down-typed x s h = rw (down, f, s) (fitting p x h)
 
@@ -66,14 +67,14 @@ module _ {L : ℕ} {Γ : Context} {p : ℕ} {a e : Term} {places : List ℕ} {de
   unfolding _>>=_
   up-rests s = rw (up-tested, s) refl
 
-  pub up-step-over : (x : Term) → step a ≡ next x → L < size x → infer L Γ p (castup a e) ≡ refused over-limit p
+  pub up-step-over : {k : Kind} (x : Term) → step a ≡ next k x → L < size x → infer L Γ p (castup a e) ≡ refused over-limit p
   unfolding _>>=_ stepped
   up-step-over x s h = rw (up-tested, s, over p x h) refl
 
-  pub up-other : (x : Term) → step a ≡ next x → size x ≤ L → x ≢ B .type → infer L Γ p (castup a e) ≡ refused wrong-cast p
+  pub up-other : {k : Kind} (x : Term) → step a ≡ next k x → size x ≤ L → x ≢ B .type → infer L Γ p (castup a e) ≡ refused wrong-cast p
   unfolding _>>=_ _>>_ require stepped
   up-other x s h n = rw (up-tested, s, fitting p x h, unequal n) refl
 
-  pub up-measured : (x : Term) → step a ≡ next x → size x ≤ L → x ≡ B .type → infer L Γ p (castup a e) ≡ measure L p a
+  pub up-measured : {k : Kind} (x : Term) → step a ≡ next k x → size x ≤ L → x ≡ B .type → infer L Γ p (castup a e) ≡ measure L p a
   unfolding _>>=_ _>>_ require stepped
   up-measured x s h q = rw (up-tested, s, fitting p x h, ← q, equal x) refl

@@ -44,14 +44,16 @@ pub moves : (s : calculus.Next) (work : List ℕ) (top limit n : ℕ) (r : Stepp
 unfolding Steps Moves
 moves calculus.value work top limit n r part same room-for w = w .0
 moves calculus.stuck work top limit n r part same room-for w = w .0
-moves (calculus.next x) work top limit n r part same room-for w =
+moves (calculus.next k x) work top limit n r part same room-for (K, kind, w) =
     let many = words-length x in
     let rest = length-drop top work in
     let long = length-take-le n (drop top work) (omega arith) in (
+      K,
+      kind,
       λ h.
           let g = w .fits (omega arith) in
           let whole = stored-part work (words x) top n (omega arith) (omega arith) in
-          (g .0 ∙ ap stepped.To many, ap (λ l. take top work ++ (l ++ drop n (drop top work))) (g .1) ∙ whole),
+          (g .0 ∙ ap (stepped.To K) many, ap (λ l. take top work ++ (l ++ drop n (drop top work))) (g .1) ∙ whole),
       λ h. w .full (omega arith),
     )
 

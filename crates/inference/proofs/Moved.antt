@@ -13,8 +13,10 @@ use lib.Seq.{sets}
 use Rattle.calculus.specs.Term.{Term, size}
 use Rattle.calculus.specs.Answer.{refused, no-step}
 use Rattle.calculus.specs.Words.{words}
+use Rattle.calculus.specs.Kinds.{Kind}
 use Rattle.calculus.specs.Step.{Next, value, stuck, next}
 use Rattle.calculus.specs.Infer.{stepped}
+use Rattle.reduction.specs.declared.stepping.Kind as code
 use Rattle.reduction.specs.declared.stepping.Stepped.{Stepped}
 use Rattle.reduction.specs.declared.stepping.Stepped.the-variants.{To, Full}
 use Rattle.reduction.proofs.stepping.Stepped.{the-type}
@@ -23,8 +25,9 @@ use Rattle.inference.specs.Moving.{Moves}
 use Rattle.inference.proofs.Putting.{within-or-over}
 
 pub record Moved (n : Next) (work : List ℕ) (top limit k : ℕ) (after : List ℕ) : Type 0 where
+  pub kind : Kind
   pub state : Term
-  pub steps : n ≡ next state
+  pub steps : n ≡ next kind state
   pub fits : size state ≤ limit
   pub long : k ≡ size state
   pub stored : after ≡ sets work top (words state)
@@ -42,28 +45,28 @@ no-rest q k = ⊎-elim (λ z. omega arith) (λ z. omega arith) k
 
 module _ (work : List ℕ) (top limit : ℕ) (r : Stepped) (after : List ℕ) where
   -- The next state is within the limit or over it, and the answer goes by that.
-  by-limit : {A : Type 0} (x : Term)
-      → Moves (next x) work top limit r after
-      → (size x ≤ limit → r ≡ To (size x) → after ≡ sets work top (words x) → A)
+  by-limit : {A : Type 0} (k : Kind) (x : Term)
+      → Moves (next k x) work top limit r after
+      → ((K : code.Kind) → size x ≤ limit → r ≡ To K (size x) → after ≡ sets work top (words x) → A)
       → (limit < size x → r ≡ Full → A)
       → A
   unfolding Moves
-  by-limit x m within over = within-or-over x limit (λ h. within h (m .0 h .0) (m .0 h .1)) (λ h. over h (m .1 h))
+  by-limit k x m within over = within-or-over x limit (λ h. within (m .0) h (m .2 h .0) (m .2 h .1)) (λ h. over h (m .3 h))
 
-  pub moved : (n : Next) {k : ℕ} → Moves n work top limit r after → r ≡ To k → Moved n work top limit k after
+  pub moved : (n : Next) {K : code.Kind} {k : ℕ} → Moves n work top limit r after → r ≡ To K k → Moved n work top limit k after
   unfolding Moves
   moved value m q = absurd (true≢false cc)
   moved stuck m q = absurd (true≢false cc)
-  moved (next x) m q =
-      by-limit x m (λ h t s. record { state = x; steps = refl; fits = h; long = cc (q, t); stored = s })
+  moved (next k x) m q =
+      by-limit k x m (λ K h t s. record { kind = k; state = x; steps = refl; fits = h; long = cc (q, t); stored = s })
       (λ h f. absurd (true≢false cc))
 
-  pub over-limit : (n : Next) → Moves n work top limit r after → r ≡ Full → (x : Term) × (n ≡ next x) × (limit < size x)
+  pub over-limit : (n : Next) → Moves n work top limit r after → r ≡ Full → (k : Kind) × (x : Term) × (n ≡ next k x) × (limit < size x)
   unfolding Moves
   over-limit value m q = absurd (true≢false cc)
   over-limit stuck m q = absurd (true≢false cc)
-  over-limit (next x) m q =
-      by-limit x m (λ h t s. absurd (true≢false cc)) (λ h f. (x, refl, h))
+  over-limit (next k x) m q =
+      by-limit k x m (λ K h t s. absurd (true≢false cc)) (λ h f. (k, x, refl, h))
 
   pub rests : (p : ℕ) (n : Next)
       → Moves n work top limit r after
@@ -72,5 +75,5 @@ module _ (work : List ℕ) (top limit : ℕ) (r : Stepped) (after : List ℕ) wh
   unfolding stepped
   rests p value m k = refl
   rests p stuck m k = refl
-  rests p (next x) m k =
-      by-limit x m (λ h q s. absurd (no-rest (ap (tagOf the-type) q) k)) (λ h q. absurd (no-rest (ap (tagOf the-type) q) k))
+  rests p (next j x) m k =
+      by-limit j x m (λ K h q s. absurd (no-rest (ap (tagOf the-type) q) k)) (λ h q. absurd (no-rest (ap (tagOf the-type) q) k))

@@ -10,8 +10,10 @@ use Rattle.calculus.specs.Words.{words, Scoped, longest, deepest}
 use Rattle.calculus.specs.Step as calculus
 use Rattle.reduction.specs.declared.copying.Room.{Room}
 use Rattle.reduction.specs.declared.copying.Room.the-variants as room
+use Rattle.reduction.specs.declared.stepping.Kind.{Kind}
 use Rattle.reduction.specs.declared.stepping.Stepped.{Stepped}
 use Rattle.reduction.specs.declared.stepping.Stepped.the-variants as stepped
+use Rattle.reduction.specs.Stepping.{kind-of}
 use Rattle.inference.specs.declared.moving.Applied.{Applied}
 use Rattle.inference.specs.declared.moving.Applied.the-variants as applied
 
@@ -41,8 +43,10 @@ pub record Applies (a b u σ : Term) (work : List ℕ) (top limit : ℕ) (r : Ap
 unfoldable pub Moves : calculus.Next → List ℕ → ℕ → ℕ → Stepped → List ℕ → Type 0
 Moves calculus.value work top limit r after = r ≡ stepped.Value
 Moves calculus.stuck work top limit r after = r ≡ stepped.Stuck
-Moves (calculus.next x) work top limit r after =
-    (size x ≤ limit → (r ≡ stepped.To (size x)) × (after ≡ sets work top (words x)))
+Moves (calculus.next k x) work top limit r after =
+    (K : Kind)
+    × (kind-of K ≡ k)
+    × (size x ≤ limit → (r ≡ stepped.To K (size x)) × (after ≡ sets work top (words x)))
     × (limit < size x → r ≡ stepped.Full)
 
 -- "the annotation steps, else 13; the stepped annotation is measured".

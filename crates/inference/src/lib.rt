@@ -220,7 +220,7 @@ fn cast_up(
         Stepped::Full => {
             return refused(Reason::OverLimit, place);
         }
-        Stepped::To(count) => count,
+        Stepped::To(_, count) => count,
     };
     let end = next + count;
     if !same(&work[top..next], &work[next..end]) {
@@ -254,7 +254,7 @@ fn cast_down(
     match step_type(depth == 0, work, top, length, limit) {
         Stepped::Value | Stepped::Stuck => refused(Reason::NoStep, place),
         Stepped::Full => refused(Reason::OverLimit, place),
-        Stepped::To(count) => Inferred::Typed(1 + read, count),
+        Stepped::To(_, count) => Inferred::Typed(1 + read, count),
     }
 }
 

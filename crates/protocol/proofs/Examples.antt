@@ -6,4 +6,4 @@ use Rattle.protocol.specs.Examples.{Examples, read}
 
 pub examples : Examples
 unfolding ascii letter digit number word field-end barred finished parting fed read
-examples = (refl, refl, refl)
+examples = (refl, refl, refl, refl)

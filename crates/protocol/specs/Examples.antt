@@ -5,7 +5,7 @@ use mathlib.Core.Path.{_≡_}
 use Prim.Native.Nat.{ℕ}
 use Prim.Native.String.{String}
 use Rattle.text.specs.Texts.{ascii}
-use Rattle.protocol.specs.Answers.{check-verb, run-verb, part-verb}
+use Rattle.protocol.specs.Answers.{check-verb, run-verb, kinds-verb, part-verb}
 use Rattle.protocol.specs.Requests.{Line, line-of, unread, fed, field-end, finished}
 
 -- All the bytes of a line, and its end.
@@ -39,4 +39,5 @@ abbrev pub Examples : Type 0
 Examples =
     (reads "check 64 | 4 0 16" ≡ request check-verb 1 64 0 3 (4 ∷ 0 ∷ 16 ∷ 0 ∷ []))
     × (reads "run 1000 999 |0" ≡ request run-verb 2 1000 999 1 (0 ∷ 0 ∷ 0 ∷ 0 ∷ []))
+    × (reads "kinds 7 4294967295 | 6 0 16" ≡ request kinds-verb 2 7 4294967295 3 (6 ∷ 0 ∷ 16 ∷ 0 ∷ []))
     × (reads "\tpart 2| 5 0 0 7 7" ≡ request part-verb 1 2 0 4 (5 ∷ 0 ∷ 0 ∷ 7 ∷ []))

@@ -8,6 +8,7 @@ use native.Mathlib.Omega.{arith}
 use lib.ListN.{length}
 use Rattle.calculus.specs.Term.{Term, app, castdown}
 use Rattle.calculus.specs.Words.{emit, words, Scoped}
+use Rattle.calculus.specs.Kinds.{Kind}
 use Rattle.calculus.specs.Step.{Next, next, under, applied, cancelled, step}
 use Rattle.calculus.proofs.Coding.{emit-append}
 
@@ -60,7 +61,7 @@ unfolding fill steps-itself step
 step-fill (applied-to u) t = refl
 step-fill cast-down t = refl
 
-pub step-plug : (fs : List Frame) (s : Term) {x : Term} → step s ≡ next x → step (plug fs s) ≡ next (plug fs x)
+pub step-plug : (fs : List Frame) (s : Term) {k : Kind} {x : Term} → step s ≡ next k x → step (plug fs s) ≡ next k (plug fs x)
 unfolding plug under
 step-plug [] s h = h
 step-plug (f ∷ fs) s h =

@@ -8,12 +8,14 @@ use lib.ListN.{length, take, drop, length-drop}
 use lib.Seq.{take-at, drop-at}
 use Rattle.calculus.specs.Term.{Term, app, lam, castup, castdown, mu, size}
 use Rattle.calculus.specs.Words.{emit, words, Scoped}
+use Rattle.calculus.specs.Kinds as kinds
 use Rattle.calculus.specs.Step.{next, step}
 use Rattle.calculus.proofs.Coding.{emit-length, size-positive, words-injective}
+use Rattle.reduction.specs.declared.stepping.Kind.{Kind}
 use Rattle.reduction.specs.declared.stepping.Redex.the-variants as redex
 use Rattle.reduction.specs.declared.stepping.Stepped.{Stepped}
 use Rattle.reduction.specs.declared.stepping.Stepped.the-variants as stepped
-use Rattle.reduction.specs.Stepping.{Arrives, Located, Steps, locate}
+use Rattle.reduction.specs.Stepping.{Arrives, Located, Steps, kind-of, locate}
 use Rattle.reduction.proofs.Frames.{Frame, plug, before, behind, words-plug, step-plug, scoped-inside, nothing-behind}
 use Rattle.reduction.proofs.Redexes.{Inside, splits-at}
 
@@ -23,10 +25,10 @@ pub record Placed (ws : List ℕ) (at : ℕ) (s : Term) : Type 0 where
   pub here : drop at ws ≡ emit s rest
   pub alone : at ≡ 0 → rest ≡ []
   pub scoped : (t : Term) → ws ≡ words t → (n : ℕ) → Scoped n t → Scoped n s
-  pub steps : (x t : Term)
-      → step s ≡ next x
+  pub steps : (k : kinds.Kind) (x t : Term)
+      → step s ≡ next k x
       → ws ≡ words t
-      → (y : Term) × (step t ≡ next y) × (words y ≡ take at ws ++ emit x rest)
+      → (y : Term) × (step t ≡ next k y) × (words y ≡ take at ws ++ emit x rest)
 
 pub placed-within : {ws : List ℕ} {at : ℕ} {s : Term} → Placed ws at s → at + size s ≤ length ws
 placed-within {ws} {at} {s} p = omega (arith, length-drop at ws, ap length (p .here), emit-length s (p .rest), size-positive s)
@@ -38,7 +40,7 @@ placed {ws} {at} {s} t coded i =
       here = rw split (drop-at (before fs) (emit s (behind fs)) at (i .place));
       alone = λ zero. nothing-behind fs (i .place ∙ zero);
       scoped = λ t′ coded′ n h. scoped-inside fs s n (subst (Scoped n) (same t′ coded′) h);
-      steps = λ x t′ h coded′.
+      steps = λ k x t′ h coded′.
           (plug fs x, ap step (same t′ coded′) ∙ step-plug fs s h, words-plug fs x ∙ ap (λ l. l ++ emit x (behind fs)) front);
     }
   where
@@ -73,18 +75,18 @@ cancel-placed (t, coded, there) =
     let (a, e, i) = splits-at t there in
     (a, e, placed t coded i)
 
-pub reaches : {ws l out after : List ℕ} {at : ℕ} {s x : Term} {r : Stepped} (p : Placed ws at s)
-    → step s ≡ next x
+pub reaches : {K : Kind} {ws l out after : List ℕ} {at : ℕ} {s x : Term} {r : Stepped} (p : Placed ws at s)
+    → step s ≡ next (kind-of K) x
     → l ≡ emit x (p .rest)
-    → Arrives (take at ws ++ l) out r after
+    → Arrives K (take at ws ++ l) out r after
     → (t : Term)
     → ws ≡ words t
     → Steps (step t) out r after
 unfolding Steps
-reaches {ws} {l} {out} {after} {at} {s} {x} {r} p h same a t coded =
-    let (y, steps, written) = p .steps x t h coded in
+reaches {K} {ws} {l} {out} {after} {at} {s} {x} {r} p h same a t coded =
+    let (y, steps, written) = p .steps (kind-of K) x t h coded in
     subst (λ n. Steps n out r after) (sym steps)
-    (subst (λ e. Arrives e out r after) (ap (λ e. take at ws ++ e) same ∙ sym written) a)
+    (K, refl, subst (λ e. Arrives K e out r after) (ap (λ e. take at ws ++ e) same ∙ sym written) a)
 
 -- Where there is no redex, the term is a value or stuck.
 pub value-stays : (out : List ℕ) (t : Term) → locate t ≡ redex.Value → Steps (step t) out stepped.Value out

@@ -15,9 +15,10 @@ use Rattle.calculus.proofs.Coding.{emit-append, words-length}
 use Rattle.term.specs.Walk.{span}
 use Rattle.term.proofs.Walking.{span-words}
 use Rattle.reduction.specs.declared.rewriting.Change.the-variants.{Put}
+use Rattle.reduction.specs.declared.stepping.Kind.{Kind}
 use Rattle.reduction.specs.declared.stepping.Stepped.{Stepped}
 use Rattle.reduction.specs.Rewriting.{Bounded, Plain, instantiated}
-use Rattle.reduction.specs.Stepping.{Arrives, CodesWithin, Replaceable, Steps, replaced}
+use Rattle.reduction.specs.Stepping.{Arrives, CodesWithin, Replaceable, Steps, kind-of, replaced}
 use Rattle.reduction.proofs.Plain.{plain-words}
 use Rattle.reduction.proofs.Rewritten.{instantiated-words, closed-raised}
 use Rattle.reduction.proofs.Spans.{Spanned}
@@ -60,14 +61,14 @@ module _ {ws k : List ℕ} {at i j m end : ℕ} {s e u : Term}
       let (walked, short-body, plain) = part-fits c b (suc deepest) (le-refl _) (in-body deepest scoped) in
       (omega (arith, placed-within p), v .within, walked, short-body, plain, argument-fits c v (in-argument deepest scoped) shut)
 
-  pub replaces : {out after : List ℕ} {r : Stepped}
-      → step s ≡ next (substitute 0 u e)
-      → Arrives (replaced ws at end (take (j - i) (drop i ws)) (take (end - m) (drop m ws))) out r after
+  pub replaces : {K : Kind} {out after : List ℕ} {r : Stepped}
+      → step s ≡ next (kind-of K) (substitute 0 u e)
+      → Arrives K (replaced ws at end (take (j - i) (drop i ws)) (take (end - m) (drop m ws))) out r after
       → (t : Term)
       → ws ≡ words t
       → Steps (step t) out r after
-  replaces {out} {after} {r} h a =
-      reaches p h same (subst (λ l. Arrives l out r after) (append-assoc (take at ws) new (drop end ws)) a)
+  replaces {K} {out} {after} {r} h a =
+      reaches p h same (subst (λ l. Arrives K l out r after) (append-assoc (take at ws) new (drop end ws)) a)
     where
       new : List ℕ
       new = instantiated (take (end - m) (drop m ws)) (take (j - i) (drop i ws))

@@ -8,11 +8,14 @@ use lib.ListN.{length, take, drop}
 use lib.Seq.{sets}
 use Rattle.calculus.specs.Term.{Term, var, star, app, lam, pi, castup, castdown, mu, size}
 use Rattle.calculus.specs.Words.{words, Scoped, longest, deepest}
+use Rattle.calculus.specs.Kinds as kinds
 use Rattle.calculus.specs.Step as calculus
 use Rattle.term.specs.Walk.{span}
 use Rattle.reduction.specs.Writing.{Written}
 use Rattle.reduction.specs.Rewriting.{Bounded, Plain, instantiated}
 use Rattle.reduction.specs.declared.rewriting.Change.the-variants as change
+use Rattle.reduction.specs.declared.stepping.Kind.{Kind}
+use Rattle.reduction.specs.declared.stepping.Kind.the-variants as kind
 use Rattle.reduction.specs.declared.stepping.Redex.{Redex}
 use Rattle.reduction.specs.declared.stepping.Redex.the-variants as redex
 use Rattle.reduction.specs.declared.stepping.Stepped.{Stepped}
@@ -78,14 +81,21 @@ pub record CodesWithin (ws : List ℕ) (closed : Bool) : Type 0 where
   pub scoped : Scoped deepest term
   pub shut : closed ≡ true → Scoped 0 term
 
--- `Arrives e out r after`: the words `e` are written to the front of `out`, which leaves `after`, and the answer is `r`.
-pub record Arrives (e out : List ℕ) (r : Stepped) (after : List ℕ) : Type 0 where
-  pub fits : length e ≤ length out → (r ≡ stepped.To (length e)) × (after ≡ sets out 0 e)
+-- The kinds of the calculus that those of the code stand for.
+abbrev pub kind-of : Kind → kinds.Kind
+kind-of kind.Substitution = kinds.by-substitution
+kind-of kind.Unfolding = kinds.by-unfolding
+kind-of kind.Cancellation = kinds.by-cancellation
+
+-- `Arrives K e out r after`: by a step of the kind K the words `e` are written to the front of `out`, which leaves `after`, and the
+-- answer is `r`.
+pub record Arrives (K : Kind) (e out : List ℕ) (r : Stepped) (after : List ℕ) : Type 0 where
+  pub fits : length e ≤ length out → (r ≡ stepped.To K (length e)) × (after ≡ sets out 0 e)
   pub full : length out < length e → r ≡ stepped.Full
 
 -- The same from `at` on, where all before it is written.
-abbrev pub Finishes : List ℕ → List ℕ → ℕ → Stepped → List ℕ → Type 0
-Finishes e out at r after = Written stepped.To stepped.Full e out at r after
+abbrev pub Finishes : Kind → List ℕ → List ℕ → ℕ → Stepped → List ℕ → Type 0
+Finishes K e out at r after = Written (stepped.To K) stepped.Full e out at r after
 
 -- What is asked where a redex at `at` gives way to its body with the argument put in: places within the state, a body that is one
 -- subterm, short and of small words, and what substitution asks of the argument.
@@ -106,7 +116,7 @@ replaced state at end body argument = take at state ++ instantiated argument bod
 unfoldable pub Steps : calculus.Next → List ℕ → Stepped → List ℕ → Type 0
 Steps calculus.value out r after = (r ≡ stepped.Value) × (after ≡ out)
 Steps calculus.stuck out r after = (r ≡ stepped.Stuck) × (after ≡ out)
-Steps (calculus.next x) out r after = Arrives (words x) out r after
+Steps (calculus.next k x) out r after = (K : Kind) × (kind-of K ≡ k) × Arrives K (words x) out r after
 
 -- The same of the state whose words are given: whatever term they are, by its step.
 abbrev pub Tells : (state out : List ℕ) → Stepped → (after : List ℕ) → Type 0

@@ -22,11 +22,18 @@ enum Redex {
     Unfold(usize),
 }
 
-// The length of the next state, or why there is none, or that it does not fit.
+// The kinds of steps, by their rule: S_BETA, S_MU, S_CASTDOWNUP.
+pub enum Kind {
+    Substitution,
+    Unfolding,
+    Cancellation,
+}
+
+// The kind of the step and the length of the next state, or why there is none, or that it does not fit.
 pub enum Stepped {
     Value,
     Stuck,
-    To(usize),
+    To(Kind, usize),
     Full,
 }
 
@@ -97,6 +104,7 @@ fn behind(state: &[u16], at: usize, last: usize) -> usize
 
 // Writes what stands before `at`, then the body with the argument put in, then what stands from `end` on.
 fn replace(
+    kind: Kind,
     state: &[u16],
     at: usize,
     body: &[u16],
@@ -106,7 +114,7 @@ fn replace(
     out: &mut [u16],
 ) -> Stepped
     requires { ⌜ Replaceable (now state) at end (now body) (now argument) closed ⌝ }
-    ensures { λ r. ⌜ Arrives (replaced (now (state .entry)) at end (now (body .entry)) (now (argument .entry)))
+    ensures { λ r. ⌜ Arrives kind (replaced (now (state .entry)) at end (now (body .entry)) (now (argument .entry)))
         (now (out .entry)) r (now (out .exit)) ⌝ }
 {
     let Room::To(from) = copy(&state[..at], out, 0) else {
@@ -115,17 +123,17 @@ fn replace(
     let Room::To(next) = substitute(body, argument, closed, out, from) else {
         return Stepped::Full;
     };
-    finish(&state[end..], out, next)
+    finish(kind, &state[end..], out, next)
 }
 
-// Writes the last words of the next state.
-fn finish(rest: &[u16], out: &mut [u16], at: usize) -> Stepped
+// Writes the last words of the next state, to which a step of this kind leads.
+fn finish(kind: Kind, rest: &[u16], out: &mut [u16], at: usize) -> Stepped
     requires { ⌜ at ≤ length (now out) ⌝ }
-    ensures { λ r. ⌜ Finishes (now (rest .entry)) (now (out .entry)) at r (now (out .exit)) ⌝ }
+    ensures { λ r. ⌜ Finishes kind (now (rest .entry)) (now (out .entry)) at r (now (out .exit)) ⌝ }
 {
     match copy(rest, out, at) {
         Room::Full => Stepped::Full,
-        Room::To(end) => Stepped::To(end),
+        Room::To(end) => Stepped::To(kind, end),
     }
 }
 
@@ -139,6 +147,7 @@ fn beta(state: &[u16], at: usize, closed: bool, out: &mut [u16]) -> Stepped
     let argument = body + span(&state[body..]);
     let end = behind(state, at, argument);
     replace(
+        Kind::Substitution,
         state,
         at,
         &state[body..argument],
@@ -158,6 +167,7 @@ fn unfold(state: &[u16], at: usize, closed: bool, out: &mut [u16]) -> Stepped
     let body = annotation + span(&state[annotation..]);
     let end = behind(state, at, body);
     replace(
+        Kind::Unfolding,
         state,
         at,
         &state[body..end],
@@ -178,7 +188,7 @@ fn cancel(state: &[u16], at: usize, out: &mut [u16]) -> Stepped
     let Room::To(next) = copy(&state[..at], out, 0) else {
         return Stepped::Full;
     };
-    finish(&state[body..], out, next)
+    finish(Kind::Cancellation, &state[body..], out, next)
 }
 
 // The next state of `state`, written to the front of `out`; `closed` where the state is a closed term.

@@ -38,11 +38,15 @@ impl Slices {
                 }
                 Checked::Refused(r) => write!(text, "refused {} {}", r.reason.number(), r.place).unwrap(),
             },
-            "run" => {
+            verb @ ("run" | "kinds") => {
                 let (ran, state) = self.buffers.run(&words, number(1)?, number(2)?);
                 match ran.answer {
                     Ok(ended) => {
-                        write!(text, "ran {} {} {}", ended.end.number(), ended.steps, ran.allowance).unwrap();
+                        write!(text, "ran {} {}", ended.end.number(), ended.steps).unwrap();
+                        if verb == "kinds" {
+                            write!(text, " {} {} {}", ended.substitutions, ended.unfoldings, ended.cancellations).unwrap();
+                        }
+                        write!(text, " {}", ran.allowance).unwrap();
                         put_words(&mut text, state);
                     }
                     Err(r) => write!(text, "refused {} {}", r.reason.number(), r.place).unwrap(),

@@ -1,33 +1,36 @@
 -- `perform` meets its contract. The loop's invariant: with the steps taken so far, the run has reached the state at the front
 -- of the working slice, which is as it was behind the room for a state. The measure is what is left of the grant.
 use Prim.Native.Nat.{_-_, _≤_}
-use mathlib.Core.Path.{_≡_, refl, sym, _∙_}
+use mathlib.Core.Path.{_≡_, refl, sym, ap, _∙_}
 use native.Mathlib.Omega.{arith}
 use lib.ListN.{length, drop}
 use denote.Ref.{now}
 use borrow.Author.Needs.{needs}
 use Rattle.calculus.specs.Term.{Term}
 use Rattle.calculus.specs.Words.{Readable, words, longest}
+use Rattle.calculus.specs.Kinds.{total}
 use Rattle.calculus.specs.Step as calculus
 use Rattle.calculus.specs.Run.{run-from}
+use Rattle.calculus.proofs.Counting.{total-counting}
 use Rattle.reduction.specs.declared.stepping.Stepped.{Stepped}
 use Rattle.evaluation.specs.declared.End.{End}
-use Rattle.evaluation.specs.Courses.{Advances, Performs}
+use Rattle.evaluation.specs.Courses.{AddUp, Advances, Performs}
 use Rattle.evaluation.proofs.States.{readable-spells, copied-held, copied-behind}
 use Rattle.evaluation.proofs.Turns.{Reaches, reaches-first, reaches-next, Stops, stops-value, stops-stuck, stops-long, performs-stop, performs-spent, turn-behind}
 use Rattle.evaluation.proofs.perform.Statement.{statement}
 use Rattle.evaluation.proofs.perform.Tie as tie
 
 abbrev Inv-loop : tie.InvT-loop
-Inv-loop term grant work₀ copied₀ count₀ taken₀ work copied count taken =
-    (taken ≤ grant)
+Inv-loop term grant work₀ copied₀ count₀ steps₀ work copied count steps =
+    (steps .total ≤ grant)
+    × AddUp steps
     × (length work ≡ length work₀)
     × (length copied ≡ longest)
     × (drop longest work ≡ drop longest work₀)
-    × ((t : Term) → term ≡ words t → Readable t → Reaches grant taken t work count)
+    × ((t : Term) → term ≡ words t → Readable t → Reaches grant steps t work count)
 
 abbrev μ-loop : tie.MeasureT-loop
-μ-loop term grant work₀ copied₀ count₀ taken₀ work copied count taken = grant - taken
+μ-loop term grant work₀ copied₀ count₀ steps₀ work copied count steps = grant - steps .total
 
 -- The working slice at the loop's head is behind the room for a state as it was at the start.
 behind : (c : tie.At-loop Inv-loop μ-loop)
@@ -36,19 +39,19 @@ behind : (c : tie.At-loop Inv-loop μ-loop)
 behind c =
     let start = c .before .before .before .before .before .before .before in
     let (t, e, r) = start .pre .1 in
-    c .loop .inv .3
+    c .loop .inv .4
     ∙ copied-behind (c .before .before .before .copy .ensures) (readable-spells (now (start .args .term)) e r) (start .pre .0)
 
 -- The present state of a run of `t`, and one step from it.
 module _ (c : tie.After-advance Inv-loop μ-loop) (t : Term)
-    (e : now (c .before .before .before .before .before .before .before .before .before .before .before .args .term) ≡ words t)
+    (e : now (c .before .before .before .before .before .before .before .before .before .before .before .before .args .term) ≡ words t)
     (r : Readable t) where
-  reached : let loop = c .before .before .before .before in
+  reached : let loop = c .before .before .before .before .before in
       let start = loop .before .before .before .before .before .before .before in
-      Reaches (start .args .grant) (loop .loop .taken) t (loop .loop .work) (loop .loop .count)
-  reached = c .before .before .before .before .loop .inv .4 t e r
+      Reaches (start .args .grant) (loop .loop .steps) t (loop .loop .work) (loop .loop .count)
+  reached = c .before .before .before .before .before .loop .inv .5 t e r
 
-  advances : let loop = c .before .before .before .before in
+  advances : let loop = c .before .before .before .before .before in
       Advances (calculus.step (reached .state)) (loop .loop .work) (loop .loop .count) (reached .state) (c .advance .result)
       (c .advance .last .0)
   advances = c .advance .ensures .0 (reached .state) (reached .holds)
@@ -56,18 +59,20 @@ module _ (c : tie.After-advance Inv-loop μ-loop) (t : Term)
   stops : {s : Stepped} {E : End}
       → Stops s E
       → c .advance .result ≡ s
-      → let loop = c .before .before .before .before in
+      → let loop = c .before .before .before .before .before in
       let start = loop .before .before .before .before .before .before .before in
       Performs (run-from (start .args .grant) t) (now (start .args .work))
-      (record { end = E; steps = loop .loop .taken; length = loop .loop .count }) (c .advance .last .0)
+      (record { end = E; steps = loop .loop .steps; length = loop .loop .count }) (c .advance .last .0)
   stops o told =
       performs-stop reached (omega arith) (c .advance .result) (c .advance .last .0) advances o told
-      (behind (c .before .before .before .before))
+      (behind (c .before .before .before .before .before))
 
 loop-holds : tie.Need-loop-holds Inv-loop μ-loop
+unfolding total
 loop-holds c =
     let start = c .before .before .before .before .before .before in (
       omega arith,
+      refl,
       refl,
       refl,
       refl,
@@ -76,12 +81,12 @@ loop-holds c =
 
 advance-requires : tie.Need-advance-requires Inv-loop μ-loop
 advance-requires c κs =
-    let loop = c .before .before .before in
+    let loop = c .before .before .before .before in
     let start = loop .before .before .before .before .before .before .before in
     let (t, e, r) = start .pre .1 in
-    let h = loop .loop .inv .4 t e r in
-    let long : longest ≤ length (loop .loop .work) = omega (arith, loop .loop .inv .1, loop .before .before .before .copy .kept .1 .0) in
-    (long, loop .loop .inv .2, (h .state, h .holds))
+    let h = loop .loop .inv .5 t e r in
+    let long : longest ≤ length (loop .loop .work) = omega (arith, loop .loop .inv .2, loop .before .before .before .copy .kept .1 .0) in
+    (long, loop .loop .inv .3, (h .state, h .holds))
 
 returns : tie.Need-returns Inv-loop μ-loop
 returns c t e r = stops (c .before .before .before .before .before) t e r stops-value (c .enum-told .given .1)
@@ -92,28 +97,37 @@ returns-2 c t e r = stops (c .before .before .before .before .before) t e r stop
 returns-3 : tie.Need-returns-3 Inv-loop μ-loop
 returns-3 c t e r = stops (c .before .before .before .before .before) t e r stops-long (c .enum-told3 .given .1)
 
+-- The run at the end of a turn that is counted.
+counted-requires : tie.Need-counted-requires Inv-loop μ-loop
+counted-requires c κs =
+    let loop = c .before .before .before .before .before .before .before .before .before .before .before in
+    (omega arith, loop .loop .inv .1)
+
 loop-again : tie.Need-loop-again Inv-loop μ-loop
+unfolding total
 loop-again c =
-    let turn = c .before .before .before .before .before .before in
-    let inv = turn .before .before .before .before .loop .inv in
-    let (t, e, r) = turn .before .before .before .before .before .before .before .before .before .before .before .pre .1 in (
+    let turn = c .before .before .before .before .before .before .before in
+    let inv = turn .before .before .before .before .before .loop .inv in
+    let (many, each) = c .counted .ensures in
+    let (t, e, r) = turn .before .before .before .before .before .before .before .before .before .before .before .before .pre .1 in (
       omega arith,
-      turn .advance .kept .0 ∙ inv .1,
-      turn .advance .kept .1 .0 ∙ inv .2,
-      turn-behind (reached turn t e r) (omega arith) (turn .advance .result) (turn .advance .last .0) (advances turn t e r) ∙ inv .3,
+      ap total each ∙ total-counting _ _ ∙ omega arith,
+      turn .advance .kept .0 ∙ inv .2,
+      turn .advance .kept .1 .0 ∙ inv .3,
+      turn-behind (reached turn t e r) (omega arith) (turn .advance .result) (turn .advance .last .0) (advances turn t e r) ∙ inv .4,
       λ t e r.
           reaches-next (reached turn t e r) (omega arith) (turn .advance .result) (turn .advance .last .0) (advances turn t e r)
-          (c .before .next .given .1),
+          (c .counted .result) (c .before .before .kind .given .1) many each,
     )
 
 returns-4 : tie.Need-returns-4 Inv-loop μ-loop
-returns-4 c t e r = performs-spent (c .before .loop .inv .4 t e r) (omega arith) (behind (c .before))
+returns-4 c t e r = performs-spent (c .before .before .loop .inv .5 t e r) (omega arith) (behind (c .before .before))
 
 pub perform-spec : {M : Type 1} → statement M
 perform-spec =
     tie.close
     (tie.spec
-    Inv-loop μ-loop (λ c κs. search needs) loop-holds (λ c. sym (c .before .before .before .loop .inv .2)) advance-requires
+    Inv-loop μ-loop (λ c κs. search needs) loop-holds (λ c. sym (c .before .before .before .before .loop .inv .3)) advance-requires
     (λ c. search needs) (λ c. search needs) returns (λ c. search needs) (λ c. search needs) returns-2 (λ c. search needs)
-    (λ c. search needs) returns-3 (λ c. search needs) (λ c. omega arith) (λ c. omega arith) loop-again (λ c. search needs)
-    returns-4)
+    (λ c. search needs) returns-3 (λ c. search needs) counted-requires (λ c. omega (arith, c .counted .ensures .0)) loop-again
+    (λ c. search needs) returns-4)

@@ -10,15 +10,15 @@ use Rattle.evaluation.proofs.settle.Tie as tie
 
 slice-aggregate-copy : tie.Need-slice-aggregate-copy
 slice-aggregate-copy c =
-    let h = c .before .before .before .pre .3 .1 in
+    let h = c .before .before .before .before .pre .3 .1 in
     simp length-take (omega (arith, h .front .extent, h .front .short))
 
 returns : tie.Need-returns
 returns c x h =
-    let copy = c .before .before .before .before .before .before .before in
+    let copy = c .before .before .before .before .before .before .before .before in
     rw (
-      c .before .before .before .clear .ensures,
-      copied-begun (copy .copy .ensures) (h .front) (copy .before .before .before .before .before .pre .1),
+      c .before .before .before .before .clear .ensures,
+      copied-begun (copy .copy .ensures) (h .front) (copy .before .before .before .before .before .before .pre .1),
     )
     refl
 

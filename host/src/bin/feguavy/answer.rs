@@ -4,7 +4,7 @@ use crate::input::{Held, Input, Room};
 use crate::json::{string, Object};
 use crate::options::{Command, Options};
 use crate::{complain, ACCEPTED, FAILED, REFUSED};
-use feguavy::{Buffers, Explanation, Fact, Reason, Refusal, Style, Variable};
+use feguavy::{Buffers, Ended, Explanation, Fact, Reason, Refusal, Style, Variable};
 use std::fmt::{Arguments, Write as _};
 use std::io::{self, Write};
 
@@ -68,10 +68,7 @@ impl<'a> Desk<'a> {
                 match ran.answer {
                     Ok(ended) => {
                         let text = form.text(state);
-                        let json = || {
-                            let object = named(input, "ended").number("end", ended.end.number() as usize);
-                            object.number("steps", ended.steps as usize).words("state", state).text("text", &text)
-                        };
+                        let json = || ended_object(input, ended, state, &text);
                         form.line(input, ACCEPTED, format_args!("{ended}: {text}"), json, answers)
                     }
                     Err(refusal) => form.refused(input, refusal, answers),
@@ -201,6 +198,17 @@ impl<'a> Form<'a> {
 /// An object that begins with the input's name and the kind of answer.
 pub fn named(input: &Input, answer: &str) -> Object {
     Object::new().text("input", &input.name()).text("answer", answer)
+}
+
+pub fn ended_object(input: &Input, ended: Ended, state: &[u16], text: &str) -> Object {
+    named(input, "ended")
+        .number("end", ended.end.number() as usize)
+        .number("steps", ended.steps as usize)
+        .number("substitutions", ended.substitutions as usize)
+        .number("unfoldings", ended.unfoldings as usize)
+        .number("cancellations", ended.cancellations as usize)
+        .words("state", state)
+        .text("text", text)
 }
 
 fn refused_object(input: &Input, refusal: Refusal, why: &str) -> Object {

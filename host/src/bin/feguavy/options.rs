@@ -11,7 +11,7 @@ usage: feguavy COMMAND [OPTION]... INPUT...
 
 Commands
   check     the type of each term, or why it is refused
-  run       where each term stands after at most so many steps
+  run       where each term stands after at most so many steps, and how many of them were of each kind
   show      each term as text
   explain   as check, and for a refused term the part at fault, what was expected there and what was found
 
@@ -24,7 +24,7 @@ Inputs, one term each
 Options
   --limit N      the longest type of a check, in words: 1 to 1024 (check, explain; 1024 if not given)
   --budget N     the most steps of a run (run; 1000 if not given)
-  --trace        every state of the run, the term itself first (run)
+  --trace        every state of the run, the term itself first, each behind the rule that led to it (run)
   --json         an answer is a line of JSON
   --ascii        terms in ASCII
   --width N      the columns of a line (show, explain; 100 if not given)
@@ -51,9 +51,9 @@ Examples
   $ feguavy check --words \"4 0 16\"
   typed: ⋆ → ⋆
   $ feguavy run --trace --words \"1 3 2 4 0 16 0 0\"
-  0: cast↓ cast↑ [(λ x : ⋆. x) ⋆] ⋆
-  1: ⋆
-  ended at a value after 1 step
+  0:                 cast↓ cast↑ [(λ x : ⋆. x) ⋆] ⋆
+  1: S_CASTDOWNUP    ⋆
+  ended at a value after 1 step (1 cancelled cast)
   $ feguavy explain --words \"2 4 0 16 4 0 16\"
   $ feguavy check --json modules/*
 
@@ -62,8 +62,8 @@ Lines of JSON: \"input\" names the input, and \"answer\" says which keys follow.
   refused     reason, place: numbers (place 0 where the reason has none), text
               explain: also shown, message, facts (a list of name, words, text), variables (a list of name, binder, words, text),
               hint, least_limit, complete
-  ended       end, steps: numbers, state: words, text: the state as text
-  state       step: a number, state: words, text (run --trace, before ended)
+  ended       end, steps, substitutions, unfoldings, cancellations: numbers, state: words, text: the state as text
+  state       step: a number, rule: by which the step led there (null for step 0), state: words, text (run --trace, before ended)
   shown       words, text
   unreadable  text: why
 ";

@@ -1,10 +1,11 @@
-//! The states of a run, one by one.
+//! The states of a run, one by one, each with the rule by which it was reached.
 
-use crate::answer::{named, Answers, Desk, Form};
+use crate::answer::{ended_object, named, Answers, Desk, Form};
 use crate::input::Input;
+use crate::json::string;
 use crate::options::Options;
 use crate::ACCEPTED;
-use feguavy::{Buffers, End, Ended, Ran, Refusal};
+use feguavy::{Buffers, End, Ended, Kind, Refusal};
 use std::io::{self, Write};
 
 pub fn each(options: &Options, output: &mut impl Write, status: &mut u8) -> io::Result<()> {
@@ -13,7 +14,7 @@ pub fn each(options: &Options, output: &mut impl Write, status: &mut u8) -> io::
     for input in &options.inputs {
         let mut answers = Answers::default();
         if let Some(term) = desk.read(input, &mut answers) {
-            if let Err(refusal) = trace(form, input, term.to_vec(), output)? {
+            if let Err(refusal) = trace(form, input, term, output)? {
                 form.refused(input, refusal, &mut answers);
             }
         }
@@ -23,43 +24,50 @@ pub fn each(options: &Options, output: &mut impl Write, status: &mut u8) -> io::
     Ok(())
 }
 
-/// State k is that of a run of the term with budget k. So that a trace does not begin anew for each state, it goes on from a state
-/// that can be read as a term: one of more than 64 levels cannot, and is reached from the last that can.
-fn trace(form: Form, input: &Input, term: Vec<u16>, output: &mut impl Write) -> io::Result<Result<(), Refusal>> {
+/// State k is that of a run of the term with budget k, and the counts of the runs with budgets k and k + 1 tell the rule of step k + 1.
+/// Each run begins at the term itself, though n states then take some n × n / 2 steps: what is proved of the counts is about such
+/// runs, and a state of more than 64 levels could not be run as a term.
+fn trace(form: Form, input: &Input, term: &[u16], output: &mut impl Write) -> io::Result<Result<(), Refusal>> {
     let mut buffers = Buffers::for_limit(1);
-    let (mut base, mut base_step) = (term, 0);
-    let mut step = 0;
+    let mut before = None;
+    let mut budget = 0;
     loop {
-        let (Ran { answer, .. }, state) = buffers.run(&base, step - base_step, u32::MAX);
-        let ended = match answer {
+        let (ran, state) = buffers.run(term, budget, u32::MAX);
+        let ended = match ran.answer {
             Ok(ended) => ended,
             Err(refusal) => return Ok(Err(refusal)),
         };
-        let state = state.to_vec();
-        let text = form.text(&state);
         let mut answers = Answers::default();
-        if ended.steps == step - base_step {
-            let json = || named(input, "state").number("step", step as usize).words("state", &state).text("text", &text);
-            form.line(input, ACCEPTED, format_args!("{step}: {text}"), json, &mut answers);
+        if ended.steps == budget {
+            reached(form, input, before.map(|before| rule(before, ended)), ended.steps, state, &mut answers);
         }
-        let last = match ended.end {
-            End::Spent if step < form.options.budget => None,
-            end => Some(Ended { end, steps: base_step + ended.steps }),
-        };
-        if let Some(ended) = last {
-            let json = || {
-                let object = named(input, "ended").number("end", ended.end.number() as usize).number("steps", ended.steps as usize);
-                object.words("state", &state).text("text", &text)
-            };
+        let is_last = ended.end != End::Spent || budget == form.options.budget;
+        if is_last {
+            let json = || ended_object(input, ended, state, &form.text(state));
             form.line(input, ACCEPTED, format_args!("{ended}"), json, &mut answers);
         }
         answers.write(output)?;
-        if last.is_some() {
+        if is_last {
             return Ok(Ok(()));
         }
-        if buffers.run(&state, 0, 0).0.answer.is_ok() {
-            (base, base_step) = (state, step);
-        }
-        step += 1;
+        (before, budget) = (Some(ended), budget + 1);
     }
+}
+
+/// The rule of the last step of a run, of which the run before took one step less: the kind of which it has one more.
+fn rule(before: Ended, ended: Ended) -> &'static str {
+    let one_more = |kind: &Kind| ended.of_kind(*kind) == before.of_kind(*kind) + 1;
+    Kind::ALL.into_iter().find(one_more).expect("a step is of some kind").rule()
+}
+
+/// A state, and the rule of the step to it: none for the term itself.
+fn reached(form: Form, input: &Input, rule: Option<&str>, step: u32, state: &[u16], answers: &mut Answers) {
+    let text = form.text(state);
+    let json = || {
+        let object = named(input, "state").number("step", step as usize).optional("rule", rule.map(string));
+        object.words("state", state).text("text", &text)
+    };
+    // the states stand in one column for the first 9,999 steps
+    let head = format!("{step}: {}", rule.unwrap_or(""));
+    form.line(input, ACCEPTED, format_args!("{head:<18} {text}"), json, answers);
 }

@@ -81,7 +81,7 @@ returns-3 t c Γ e S =
     let after-step-type = c .before .before .before .before .before in
     let B = typed-body t (after-step-type .before .before .before) Γ e S in
     let o = over-limit _ _ _ _ _ (step (B .type)) (after-step-type .step-type .ensures (B .type) (B .lies)) (c .before .enum-told2 .given .1) in
-    turned (down-over _ Γ _ _ e (place-first S) (B .found) (o .0) (o .1) (o .2)) (c .refused2 .ensures)
+    turned (down-over _ Γ _ _ e (place-first S) (B .found) (o .1) (o .2) (o .3)) (c .refused2 .ensures)
 
 returns-4 : (t : ℕ) → cast-down-lts.Need-returns-4 (cast-down-claims t) (cast-down-at t) cast-down.Post
 unfolding size

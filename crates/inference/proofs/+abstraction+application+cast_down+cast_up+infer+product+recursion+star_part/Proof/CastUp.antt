@@ -21,7 +21,7 @@ use Rattle.inference.proofs.Casting.{up-annotation, up-body, up-rests, 
 use Rattle.inference.proofs.cast_up.Reads as cast-up
 use Rattle.inference.proofs.+abstraction+application+cast_down+cast_up+infer+product+recursion+star_part.Lts-cast_up as cast-up-lts
 use Rattle.inference.proofs.+abstraction+application+cast_down+cast_up+infer+product+recursion+star_part.Proof.Measures.{cast-up-at, cast-up-claims, part-asked}
-use Rattle.inference.proofs.+abstraction+application+cast_down+cast_up+infer+product+recursion+star_part.Proof.CastUp.Known.{start-place, annotation-place, typed-annotation, reach, copied, both, long, room, moves, next-state, room-next, compared}
+use Rattle.inference.proofs.+abstraction+application+cast_down+cast_up+infer+product+recursion+star_part.Proof.CastUp.Known.{start-place, annotation-place, typed-annotation, reach, copied, both, long-still, room, moves, next-state, room-next, compared}
 
 star-part-requires : (t : ℕ) → cast-up-lts.Need-star-part-requires (cast-up-claims t) (cast-up-at t) cast-up.Post
 star-part-requires t c κs =
@@ -72,7 +72,10 @@ returns-4 : (t : ℕ) → cast-up-lts.Need-returns-4 (cast-up-claims t) (cast-up
 returns-4 t c Γ a e S =
     let after-step-into = c .before .before .before .before .before in
     let o = over-limit _ _ _ _ _ (step a) (moves t after-step-into Γ a e S) (c .before .enum-told3 .given .1) in
-    turned (up-step-over (both t (after-step-into .before .before .before) Γ a e S) (o .0) (o .1) (o .2)) (c .refused2 .ensures)
+    turned (up-step-over (both t (after-step-into .before .before .before) Γ a e S) (o .1) (o .2) (o .3)) (c .refused2 .ensures)
+
+same-length-5 : (t : ℕ) → cast-up-lts.Need-same-length-5 (cast-up-claims t) (cast-up-at t) cast-up.Post
+same-length-5 t c = long-still t (c .before .before .before .before .before .before .before .before .before .before .before)
 
 returns-5 : (t : ℕ) → cast-up-lts.Need-returns-5 (cast-up-claims t) (cast-up-at t) cast-up.Post
 returns-5 t c Γ a e S =
@@ -81,6 +84,9 @@ returns-5 t c Γ a e S =
     let B = both t (after-known-told3 .before .before .before .before .before .before .before .before) Γ a e S in
     let m = next-state t after-known-told3 Γ a e S in
     turned (up-other B (m .state) (m .steps) (m .fits) (compared t after-same Γ a e S .0 (c .before .if1 .taken))) (c .refused3 .ensures)
+
+same-length-6 : (t : ℕ) → cast-up-lts.Need-same-length-6 (cast-up-claims t) (cast-up-at t) cast-up.Post
+same-length-6 t c = long-still t (c .before .before .before .before .before .before .before .before .before .before .before .before)
 
 returns-6 : (t : ℕ) → cast-up-lts.Need-returns-6 (cast-up-claims t) (cast-up-at t) cast-up.Post
 returns-6 t c Γ a e S =
@@ -107,7 +113,7 @@ add-t20 t c =
 same-length-7 : (t : ℕ) → cast-up-lts.Need-same-length-7 (cast-up-claims t) (cast-up-at t) cast-up.Post
 same-length-7 t c =
     let after-step-into = c .before .before .before .before .before .before .before .before .before .before .before .before .before .before .before .before in
-    c .before .before .copy .kept .1 .0 ∙ after-step-into .step-into .kept .1 .1 .0 ∙ long t (after-step-into .before .before .before)
+    c .before .before .copy .kept .1 .0 ∙ long-still t after-step-into
 
 returns-7 : (t : ℕ) → cast-up-lts.Need-returns-7 (cast-up-claims t) (cast-up-at t) cast-up.Post
 unfolding size
@@ -144,5 +150,5 @@ cast-up-part M t =
     (λ c. omega (arith, room-next t c)) (λ c. omega (arith, room-next t c)) (λ c. omega arith) (λ c. omega arith)
     (λ c. omega (arith, room-next t (c .before))) (λ c. omega (arith, room-next t (c .before .before))) (λ c. omega arith)
     (λ c. omega arith) (λ c. omega (arith, room-next t (c .before .before))) (λ c κs. search needs) (λ c κs. search needs)
-    (λ c. search needs) (returns-5 t) (λ c κs. search needs) (λ c. search needs) (returns-6 t) (λ c. search needs)
+    (same-length-5 t) (returns-5 t) (λ c κs. search needs) (same-length-6 t) (returns-6 t) (λ c. search needs)
     (λ c. search needs) (part-copy-end t) (copy-requires t) (add-t20 t) (same-length-7 t) (returns-7 t)

@@ -12,7 +12,7 @@ returns c =
     let refusal = c .before .before in
     let test = refusal .before .before in
     let run = test .before .before .before .before .before in
-    refused-run (run .feguavy-run .result) (run .feguavy-run .ensures .0) (test .if1 .taken) (refusal .refusal .ensures)
+    refused-run (run .before .before .before .before .before .before .args .kinds) (run .feguavy-run .result) (run .feguavy-run .ensures .0) (test .if1 .taken) (refusal .refusal .ensures)
 
 returns-2 : tie.Need-returns-2
 returns-2 c =
@@ -22,7 +22,7 @@ returns-2 c =
     let ended = span .before .before .before .before in
     let test = ended .before .before in
     let run = test .before .before .before .before .before in
-    ended-run (run .feguavy-run .result) (run .feguavy-run .ensures .0) (test .if1 .left) (span .span .ensures .0)
+    ended-run (run .before .before .before .before .before .before .args .kinds) (run .feguavy-run .result) (run .feguavy-run .ensures .0) (test .if1 .left) (span .span .ensures .0)
     (front .front .ensures) (ended .ended .ensures) (spaced .spaced .ensures)
 
 pub ran-spec : {M : Type 1} → statement M

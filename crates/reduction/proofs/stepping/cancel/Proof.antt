@@ -9,6 +9,7 @@ use lib.Seq.{length-take-le}
 use Rattle.calculus.specs.Term.{Term, castup, castdown, size}
 use Rattle.calculus.specs.Words.{emit}
 use Rattle.calculus.specs.Step.{cancelled, step, under}
+use Rattle.reduction.specs.declared.stepping.Kind.the-variants.{Cancellation}
 use Rattle.reduction.proofs.Wrote.{Wrote, wrote-of, lacked-of, lacked-more, next-within}
 use Rattle.reduction.proofs.Arrivals.{arrives-short, arrives}
 use Rattle.reduction.proofs.Spans.{further, Spanned, walked}
@@ -64,6 +65,7 @@ returns : tie.Need-returns
 unfolding step under cancelled
 returns c =
     reaches
+    {K = Cancellation}
     (redex (c .before .before .before .before .before .before .before .before .before .before .before) .2)
     refl
     refl

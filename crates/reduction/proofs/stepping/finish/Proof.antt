@@ -6,10 +6,10 @@ use Rattle.reduction.proofs.stepping.finish.Statement.{statement}
 use Rattle.reduction.proofs.stepping.finish.Tie as tie
 
 returns : tie.Need-returns
-returns c = finishes (c .before .before .before .before .copy .ensures) (ap answer (c .enum-told .given .1))
+returns c = finishes (c .before .before .before .before .copy .ensures) (ap (answer _) (c .enum-told .given .1))
 
 returns-2 : tie.Need-returns-2
-returns-2 c = finishes (c .before .before .before .before .before .copy .ensures) (ap answer (c .before .end .given .1))
+returns-2 c = finishes (c .before .before .before .before .before .copy .ensures) (ap (answer _) (c .before .end .given .1))
 
 pub finish-spec : {M : Type 1} → statement M
 finish-spec =

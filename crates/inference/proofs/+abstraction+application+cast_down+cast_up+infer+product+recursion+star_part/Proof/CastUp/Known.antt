@@ -113,6 +113,11 @@ pub moves : (t : ℕ) (c : cast-up-lts.After-step-into (cast-up-claims t) (cast-
     (start .args .limit) (c .step-into .result) (c .step-into .last .1 .1 .0)
 moves t c Γ a e S = c .step-into .ensures a (copied t (annotation-place t (c .before .before .before)) Γ a e S)
 
+-- The step leaves the slice as long as it was.
+pub long-still : (t : ℕ) (c : cast-up-lts.After-step-into (cast-up-claims t) (cast-up-at t) cast-up.Post)
+    → length (c .step-into .last .1 .1 .0) ≡ length (start-place t (annotation-place t (c .before .before .before)) .args .work .now)
+long-still t c = c .step-into .kept .1 .1 .0 ∙ long t (c .before .before .before)
+
 -- It is the annotation's next state.
 pub next-state : (t : ℕ) (c : cast-up-lts.After-known-told3 (cast-up-claims t) (cast-up-at t) cast-up.Post) (Γ : Context) (a e : Term)
     → let after-step-into = c .before .before .before .before .before in
@@ -120,7 +125,7 @@ pub next-state : (t : ℕ) (c : cast-up-lts.After-known-told3 (cast-up-claims t)
     let start = start-place t (annotation-place t after-known-told2) in
     Node t start Γ a e
     → Moved (step a) (after-known-told2 .before .before .before .before .before .infer .last .1 .1 .1 .1 .0) (start .args .top + after-known-told2 .before .body .given .0 .1 .0)
-    (start .args .limit) (c .before .count .given .0 .0) (after-step-into .step-into .last .1 .1 .0)
+    (start .args .limit) (c .before .count .given .0 .1 .0) (after-step-into .step-into .last .1 .1 .0)
 next-state t c Γ a e S = moved _ _ _ _ _ (step a) (moves t (c .before .before .before .before .before) Γ a e S) (c .before .count .given .1)
 
 -- It lies within the slice.
@@ -128,7 +133,7 @@ pub room-next : (t : ℕ) (c : cast-up-lts.After-known-told3 (cast-up-claims t) 
     → let after-step-into = c .before .before .before .before .before in
     let after-known-told2 = after-step-into .before .before .before in
     let start = start-place t (annotation-place t after-known-told2) in
-    (start .args .top + after-known-told2 .before .body .given .0 .1 .0 + c .before .count .given .0 .0 ≤ length (after-step-into .step-into .last .1 .1 .0))
+    (start .args .top + after-known-told2 .before .body .given .0 .1 .0 + c .before .count .given .0 .1 .0 ≤ length (after-step-into .step-into .last .1 .1 .0))
     × (length (after-step-into .step-into .last .1 .1 .0) * 2 < 2 ^ 63)
 room-next t c =
     let after-step-into = c .before .before .before .before .before in
