@@ -18,9 +18,9 @@ use Rattle.calculus.proofs.Comparisons.{le-leb, gt-leb}
 use Rattle.reduction.specs.declared.stepping.Kind as code
 use Rattle.reduction.specs.declared.stepping.Stepped.{Stepped}
 use Rattle.reduction.specs.declared.stepping.Stepped.the-variants as stepped
+use Rattle.reduction.specs.Stepping.{kind-of}
 use Rattle.evaluation.specs.declared.End.{End}
 use Rattle.evaluation.specs.declared.End.the-variants as end
-use Rattle.reduction.specs.Stepping.{kind-of}
 use Rattle.evaluation.specs.declared.Steps.{Steps}
 use Rattle.evaluation.specs.Courses.{Holds, Advances, Performs}
 use Rattle.evaluation.specs.Outcomes.{counts-of, end-of}
@@ -35,6 +35,10 @@ unfolding counting
 both-counting by-substitution c d = rw (add-suc (c .substitutions) (d .substitutions), suc-add (c .substitutions) (d .substitutions)) refl
 both-counting by-unfolding c d = rw (add-suc (c .unfoldings) (d .unfoldings), suc-add (c .unfoldings) (d .unfoldings)) refl
 both-counting by-cancellation c d = rw (add-suc (c .cancellations) (d .cancellations), suc-add (c .cancellations) (d .cancellations)) refl
+
+-- No step is behind.
+both-none : (c : Counts) → both c (counts 0 0 0) ≡ c
+both-none c = rw (add-zero (c .substitutions), add-zero (c .unfoldings), add-zero (c .cancellations)) refl
 
 -- With these steps more.
 abbrev pub later : Steps → Ended → Ended
@@ -106,10 +110,6 @@ stopped g x count after stops-stuck h = h
 stopped g x count after stops-long h = h
 
 module _ {grant : ℕ} {taken : Steps} {t : Term} {work : List ℕ} {count : ℕ} (h : Reaches grant taken t work count) where
-  -- No step behind.
-  alone : (s : Steps) → both (counts-of s) (counts 0 0 0) ≡ counts-of s
-  alone s = rw (add-zero (s .substitutions), add-zero (s .unfoldings), add-zero (s .cancellations)) refl
-
   -- A run that ends at the present state.
   ends : {start after : List ℕ} (E : End) (m : ℕ)
       → grant - taken .total ≡ m
@@ -121,7 +121,7 @@ module _ {grant : ℕ} {taken : Steps} {t : Term} {work : List ℕ} {count : ℕ
   ends {start} {after} E m n e k b =
       subst (λ r. Performs r start (record { end = E; steps = taken; length = count }) after)
       (sym (h .course ∙ ap (λ g. later taken (run-from g (h .state))) n ∙ ap (later taken) e))
-      (record { end = refl; steps = sym (add-zero (taken .total)); counts = sym (alone taken); holds = k; behind = b })
+      (record { end = refl; steps = sym (add-zero (taken .total)); counts = sym (both-none (counts-of taken)); holds = k; behind = b })
 
   pub performs-spent : {start : List ℕ}
       → taken .total ≡ grant

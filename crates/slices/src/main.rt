@@ -131,13 +131,22 @@ fn ran(
     feguavy_run(term, budget, work, result, allowance)
 }
 
-// `run BUDGET ALLOWANCE | WORDS -> ANSWER PLACE END STEPS LEFT`.
+// `run BUDGET ALLOWANCE | WORDS -> ANSWER PLACE END STEPS BETA MU CANCEL LEFT`.
 fn put_ran(term: &[u16], budget: u32, allowance: u32, r: RanNumbers, out: &mut [u8]) -> usize {
     let named = text::bytes(b"run", out, 0);
     let granted = text::numbers(&[budget, allowance], out, named);
     let termed = put_term(term, out, granted);
     text::numbers(
-        &[r.answer, r.place, r.end, r.steps, r.allowance],
+        &[
+            r.answer,
+            r.place,
+            r.end,
+            r.steps,
+            r.substitutions,
+            r.unfoldings,
+            r.cancellations,
+            r.allowance,
+        ],
         out,
         termed,
     )
