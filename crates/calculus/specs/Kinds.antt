@@ -36,12 +36,12 @@ counting by-substitution c = counts (suc (c .substitutions)) (c .unfoldings) (c 
 counting by-unfolding c = counts (c .substitutions) (suc (c .unfoldings)) (c .cancellations)
 counting by-cancellation c = counts (c .substitutions) (c .unfoldings) (suc (c .cancellations))
 
--- "The three add up to the total."
+-- "[...] and the three add up to the total."
 unfoldable pub total : Counts → ℕ
 total c = c .substitutions + c .unfoldings + c .cancellations
 
 -- `Counted t c x`: the steps from `t` to its state `x` are, kind by kind, so many. "Each count is the number of such steps in the
--- definition."
+-- definition [...]."
 pub data Counted (t : Term) : Counts → Term → Type 0 where
   counted-none : Counted t (counts 0 0 0) t
   counted-more : {c : Counts} {x y : Term} → Counted t c x → (s : x ⟶ y) → Counted t (counting (kind s) c) y
