@@ -15,9 +15,9 @@ extern "C" {
 #endif
 
 #define FEGUAVY_VERSION_MAJOR 2
-#define FEGUAVY_VERSION_MINOR 0
+#define FEGUAVY_VERSION_MINOR 1
 #define FEGUAVY_VERSION_PATCH 0
-#define FEGUAVY_VERSION "2.0.0"
+#define FEGUAVY_VERSION "2.1.0"
 
 /* The largest limit, the longest term or state, and the working words of a run. */
 #define FEGUAVY_LARGEST_LIMIT 1024
@@ -46,10 +46,11 @@ enum feguavy_refusal {
     FEGUAVY_OVER_LIMIT = 16          /* a type longer than the limit */
 };
 
-/* Ends of a run, by document 01's numbers. */
+/* Ends of a run, by document 01's numbers. They are tested in the order value, stuck, spent, long (document 02, 2.2), so that a value
+ * reached on the last step granted is FEGUAVY_VALUE. */
 enum feguavy_end {
     FEGUAVY_VALUE = 1, /* the state is a value */
-    FEGUAVY_SPENT = 2, /* every step granted was taken */
+    FEGUAVY_SPENT = 2, /* every step granted was taken, and the state can step */
     FEGUAVY_STUCK = 3, /* the state is no value and has no next state */
     FEGUAVY_LONG = 4   /* the next state is over 1,024 words */
 };

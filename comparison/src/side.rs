@@ -1,9 +1,18 @@
-//! The calls of both sides in one shape. The reference's are those of document 01: what it does under its options for document 02
-//! goes in here when the proved code does the same.
+//! The calls of both sides in one shape.
 
 use crate::request::Call;
 use feguavy::Checked;
 use reference::check::Answer as Verdict;
+use reference::proto::Options;
+use reference::read::Names;
+use reference::run::{run_with, Rules, FIRST};
+use reference::step::PLAIN;
+
+/// The reference under the options of what has landed of document 02: the ends of 2.2. It takes each step of a run.
+pub const LANDED: Options = Options { new_ends: true, under_up: false, names: false, no_leap: true };
+
+/// The same for a call.
+pub const RULES: Rules = Rules { new_ends: LANDED.new_ends, leap: !LANDED.no_leap, ..FIRST };
 
 /// What a call answers, by document 01's numbers.
 #[derive(Clone, Copy, Debug, PartialEq)]
@@ -83,7 +92,7 @@ pub fn proved(call: Call, term: &[u16], work: &mut [u16], result: &mut [u16]) ->
     }
 }
 
-/// The reference, which takes each step of a run.
+/// The reference.
 pub fn reference(call: Call, term: &[u16], work: &mut [u16], result: &mut [u16]) -> Answer {
     let refused = |r: reference::read::Refusal, left| Answer::Refused {
         reason: r.reason as u32,
@@ -95,17 +104,19 @@ pub fn reference(call: Call, term: &[u16], work: &mut [u16], result: &mut [u16])
             Verdict::Typed(length) => Answer::Typed { length },
             Verdict::Refused(r) => refused(r, 0),
         },
-        Call::Run { budget, allowance, .. } => match reference::run::run(term, budget, work, result, allowance) {
-            Ok(r) => Answer::Ended(Ran {
-                end: r.end as u32,
-                steps: r.steps,
-                substitutions: r.counts.beta,
-                unfoldings: r.counts.mu,
-                cancellations: r.counts.cancel,
-                left: r.left,
-            }),
-            Err(r) => refused(r, allowance),
-        },
+        Call::Run { budget, allowance, .. } => {
+            match run_with(term, budget, work, result, allowance, &PLAIN, Names::Meaningless, RULES) {
+                Ok(r) => Answer::Ended(Ran {
+                    end: r.end as u32,
+                    steps: r.steps,
+                    substitutions: r.counts.beta,
+                    unfoldings: r.counts.mu,
+                    cancellations: r.counts.cancel,
+                    left: r.left,
+                }),
+                Err(r) => refused(r, allowance),
+            }
+        }
         Call::Part { number } => match reference::read::part(term, number) {
             // its empty part is none of the term's words, and stands nowhere
             [] => Answer::Part { start: 0, length: 0 },

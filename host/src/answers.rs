@@ -181,7 +181,8 @@ impl fmt::Display for Checked {
     }
 }
 
-/// The ends of a run, in the order of document 01's numbers.
+/// The ends of a run, in the order of document 01's numbers. They are tested in the order value, stuck, spent, long (document 02,
+/// 2.2), so that a value reached on the last step granted is a value.
 ///
 /// ```
 /// use feguavy::End;
@@ -193,7 +194,7 @@ impl fmt::Display for Checked {
 pub enum End {
     /// 1: the state is a value.
     Value = 1,
-    /// 2: every step granted was taken.
+    /// 2: every step granted was taken, and the state can step.
     Spent,
     /// 3: the state is no value and has no next state.
     Stuck,
@@ -240,7 +241,7 @@ impl fmt::Display for End {
 /// ```
 #[derive(Clone, Copy, Debug, PartialEq, Eq, Hash)]
 pub struct Ended {
-    /// The first end that holds of the state reached.
+    /// How it ended: the first end that holds of the state reached, in the order of the tests.
     pub end: End,
     /// The steps taken: the three counts below add up to them.
     pub steps: u32,

@@ -45,6 +45,8 @@ pub fn check(term: &[u16], limit: u32, work: &mut [u16], output: &mut [u16]) -> 
 /// assert_eq!(ended, Ended { end: End::Value, steps: 1, substitutions: 0, unfoldings: 0, cancellations: 1 });
 /// assert_eq!(ended.to_string(), "ended at a value after 1 step (1 cancelled cast)");
 /// assert_eq!((state[0], state[1], ran.allowance), (0, 9, 999));
+/// // a budget of just the steps needed will do
+/// assert_eq!(run(&[1, 3, 2, 4, 0, 16, 0, 0], 1, &mut work, &mut state, 1000), ran);
 /// ```
 pub fn run(term: &[u16], budget: u32, work: &mut [u16], state: &mut [u16], allowance: u32) -> Ran {
     let r = raw::run(term, budget, work, state, allowance);

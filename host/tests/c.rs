@@ -29,8 +29,8 @@ int main(void) {
 }
 "#;
 
-/// Prints every number of a run of three cancelled casts, two unfoldings and one substitution, with a budget of 5 and with one of
-/// 1,000, and of a run that is refused; the desk holds 100.
+/// Prints every number of a run of three cancelled casts, two unfoldings and one substitution, with budgets of 5, of 6 and of 1,000,
+/// and of a run that is refused; the desk holds 100.
 const RUNS: &str = r#"
 #include <feguavy.h>
 #include <stdio.h>
@@ -42,6 +42,7 @@ static void print_run(const uint16_t *term, size_t count, uint32_t budget) {
 int main(void) {
     const uint16_t mixed[18] = {1, 3, 0, 1, 3, 0, 1, 3, 0, 6, 0, 6, 0, 2, 4, 0, 16, 0}, unbound[3] = {4, 0, 17};
     print_run(mixed, 18, 5);
+    print_run(mixed, 18, 6);
     print_run(mixed, 18, 1000);
     print_run(unbound, 3, 1000);
     return 0;
@@ -109,7 +110,7 @@ fn numbers_of_runs() {
     write(&source, RUNS).unwrap();
     for (compiler, language) in LANGUAGES {
         let lines = said(&mut Command::new(build(&folder, compiler, language, &source)));
-        assert_eq!(lines, "0 0 2 5 0 2 3 95\n0 0 1 6 1 2 3 94\n9 2 0 0 0 0 0 100\n", "{compiler}");
+        assert_eq!(lines, "0 0 2 5 0 2 3 95\n0 0 1 6 1 2 3 94\n0 0 1 6 1 2 3 94\n9 2 0 0 0 0 0 100\n", "{compiler}");
     }
     remove_dir_all(&folder).unwrap();
 }

@@ -71,11 +71,9 @@ fn answers() {
         0,
     );
     says(&["run", "--words", MIXED], "ended at a value after 6 steps (1 substitution, 2 unfoldings, 3 cancelled casts): ⋆\n", 0);
-    says(
-        &["run", "--budget", "1", "--words", "2 4 0 16 0"],
-        "ended with every step granted taken after 1 step (1 substitution): ⋆\n",
-        0,
-    );
+    // with just the steps needed
+    says(&["run", "--budget", "1", "--words", "2 4 0 16 0"], "ended at a value after 1 step (1 substitution): ⋆\n", 0);
+    says(&["run", "--budget", "0", "--words", "2 0 0"], "ended stuck after 0 steps: ⋆ ⋆\n", 0);
     says(&["run", "--words", "6 0 0"], "ended at a value after 1 step (1 unfolding): ⋆\n", 0);
     says(&["run", "--words", "2 0 0"], "ended stuck after 0 steps: ⋆ ⋆\n", 0);
     says(&["run", "--words", "4 0 17"], "refused: a variable outside all its binders, at place 2 (refusal 9)\n", 1);
@@ -104,16 +102,17 @@ fn traces() {
 ended at a value after 6 steps (1 substitution, 2 unfoldings, 3 cancelled casts)
 ";
     says(&["run", "--trace", "--words", MIXED], printed, 0);
-    says(
-        &["run", "--trace", "--budget", "0", "--words", "0"],
-        "0:                 ⋆\nended with every step granted taken after 0 steps\n",
-        0,
-    );
-    says(
-        &["run", "--trace", "--budget", "1", "--words", "2 6 0 0 0"],
-        "0:                 (μ _ : ⋆. ⋆) ⋆\n1: S_MU            ⋆ ⋆\nended with every step granted taken after 1 step (1 unfolding)\n",
-        0,
-    );
+    // the same with just the steps needed, and one line less with one step less
+    says(&["run", "--trace", "--budget", "6", "--words", MIXED], printed, 0);
+    let (front, _) = printed.split_once("6: ").unwrap();
+    let less = format!("{front}ended with every step granted taken after 5 steps (2 unfoldings, 3 cancelled casts)\n");
+    says(&["run", "--trace", "--budget", "5", "--words", MIXED], &less, 0);
+    let at_once = "0:                 ⋆\nended at a value after 0 steps\n";
+    says(&["run", "--trace", "--budget", "0", "--words", "0"], at_once, 0);
+    says(&["run", "--trace", "--words", "0"], at_once, 0);
+    let stuck = "0:                 (μ _ : ⋆. ⋆) ⋆\n1: S_MU            ⋆ ⋆\nended stuck after 1 step (1 unfolding)\n";
+    says(&["run", "--trace", "--budget", "1", "--words", "2 6 0 0 0"], stuck, 0);
+    says(&["run", "--trace", "--words", "2 6 0 0 0"], stuck, 0);
     says(&["run", "--trace", "--words", "7"], "refused: a word without meaning, at place 0 (refusal 5)\n", 1);
 }
 

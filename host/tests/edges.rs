@@ -1,6 +1,6 @@
 //! The edges of document 01 and the settled readings of docs/DECISIONS.md.
 
-use feguavy::{part, Buffers, End, Reason, Refusal};
+use feguavy::{part, Buffers, End, Ended, Reason, Refusal};
 
 fn words(text: &str) -> Vec<u16> {
     text.split_whitespace().map(|w| w.parse().unwrap()).collect()
@@ -121,15 +121,30 @@ fn lengths() {
 
 #[test]
 fn ends_of_runs() {
-    ends("1 3 2 4 0 16 0 0", 1000, End::Value, 1, "0");
-    ends("1 3 2 4 0 16 0 0", 1, End::Spent, 1, "0");
+    // a value and a stuck state are told on the last step too, and with nothing granted
+    for budget in [1, 2, 1000] {
+        ends("1 3 2 4 0 16 0 0", budget, End::Value, 1, "0");
+        ends("2 6 0 0 0", budget, End::Stuck, 1, "2 0 0");
+    }
     ends("1 3 2 4 0 16 0 0", 0, End::Spent, 0, "1 3 2 4 0 16 0 0");
-    ends("0", 0, End::Spent, 0, "0");
+    ends("2 6 0 0 0", 0, End::Spent, 0, "2 6 0 0 0");
+    ends("0", 0, End::Value, 0, "0");
+    ends("2 0 0", 0, End::Stuck, 0, "2 0 0");
     let mut buffers = Buffers::for_limit(1);
     // μ x : ⋆. x x doubles: the state with which it ends is the last within 1,024 words
-    let (ran, state) = buffers.run(&words("6 0 2 16 16"), 1000, 1000);
-    assert_eq!(ran.answer.unwrap().end, End::Long);
+    let growing = words("6 0 2 16 16");
+    let (ran, state) = buffers.run(&growing, 1000, 1000);
+    let ended = ran.answer.unwrap();
+    assert_eq!(ended.end, End::Long);
     assert!(state.len() <= 1024);
+    // spent is told before a next state that is too long
+    assert_eq!(buffers.run(&growing, ended.steps + 1, 1000).0.answer, Ok(ended));
+    assert_eq!(buffers.run(&growing, ended.steps, 1000).0.answer, Ok(Ended { end: End::Spent, ..ended }));
+    // and all this by the allowance where it is the smaller of the two
+    for (term, allowance, end) in [("0", 0, End::Value), ("2 6 0 0 0", 1, End::Stuck), ("6 0 0", 0, End::Spent)] {
+        let (ran, _) = buffers.run(&words(term), 1000, allowance);
+        assert_eq!((ran.answer.unwrap().end, ran.allowance), (end, 0), "{term}");
+    }
     let refused = buffers.run(&[7], 5, 3).0;
     assert_eq!(refused.answer, Err(Refusal { reason: Reason::NoMeaning, place: 0 }));
     assert_eq!(refused.allowance, 3);

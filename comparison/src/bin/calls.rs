@@ -1,6 +1,7 @@
 //! Random calls on lent slices of garbage, by the proved archive and by the reference: `calls SEED COUNT`. The answer and every word
 //! of every slice are compared. Exit status 1 at the first difference: the same seed and count lead to it again.
 
+use comparison::grant::needed;
 use comparison::request::{Call, Request, Requests};
 use comparison::side::{asked, proved, reference, Answer, Side};
 use comparison::tally::{report, Tally};
@@ -51,8 +52,8 @@ impl Cases {
         &mut self.requests.0.r
     }
 
-    /// The generator's own numbers, or others: any limit to a little above the largest, and the edges.
-    fn call(&mut self, call: Call) -> Call {
+    /// The generator's own numbers, or others: any limit to a little above the largest, grants at the steps needed, and the edges.
+    fn call(&mut self, call: Call, term: &[u16]) -> Call {
         let numbers = self.numbers();
         if numbers.one_in(2) {
             return call;
@@ -63,9 +64,13 @@ impl Cases {
                 Call::Check { limit: if numbers.one_in(2) { edge } else { numbers.below(1031) as u32 } }
             }
             Call::Run { kinds, .. } => {
-                // one of the two is small, since a run may have no end
-                let (small, any) = (numbers.below(40) as u32, *numbers.pick(&[0, 1, 39, 1000, u32::MAX - 1, u32::MAX]));
-                let (budget, allowance) = if numbers.one_in(2) { (small, any) } else { (any, small) };
+                // the steps needed, one less or one more; or a small number, since a run may have no end
+                let grant = match needed(term) {
+                    Some(steps) if numbers.one_in(2) => (steps + numbers.below(3) as u32).saturating_sub(1),
+                    _ => numbers.below(40) as u32,
+                };
+                let any = *numbers.pick(&[0, 1, 39, 1000, u32::MAX - 1, u32::MAX]);
+                let (budget, allowance) = if numbers.one_in(2) { (grant, any) } else { (any, grant) };
                 Call::Run { budget, allowance, kinds }
             }
             Call::Part { .. } => Call::Part { number: *numbers.pick(&[0, 1, 2, 3, u32::MAX]) },
@@ -110,7 +115,8 @@ impl Iterator for Cases {
 
     fn next(&mut self) -> Option<Case> {
         let Request { call, term } = self.requests.next()?;
-        let request = Request { call: self.call(call), term: self.term(term) };
+        let term = self.term(term);
+        let request = Request { call: self.call(call, &term), term };
         let (work, result) = asked(request.call);
         let (work, result) = (self.length(work), self.length(result));
         Some(Case { request, work: self.lent(work), result: self.lent(result) })
@@ -165,7 +171,7 @@ fn compare(
                 number + 1
             ));
         }
-        tally.add(case.request.call.verb(), ours.answer.kind());
+        tally.add(&case.request, ours.answer.kind());
     }
     tally.covering(count)
 }
@@ -224,6 +230,19 @@ mod tests {
             Answer::Refused { reason, place, ran } => Answer::Refused { reason, place: place + 1, ran },
             answer => answer,
         }));
+    }
+
+    /// The order of the ends before document 02, 2.2.
+    #[test]
+    fn spent_before_a_value_or_stuck_is_noticed() {
+        for end in [1, 3] {
+            assert!(noticed(|call, term, work, result| match (call, reference(call, term, work, result)) {
+                (Call::Run { budget, allowance, .. }, Answer::Ended(ran))
+                    if ran.end == end && ran.steps == budget.min(allowance) =>
+                    Answer::Ended(Ran { end: 2, ..ran }),
+                (_, answer) => answer,
+            }));
+        }
     }
 
     #[test]

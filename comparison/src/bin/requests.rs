@@ -1,9 +1,10 @@
 //! Random requests of the line protocol, answered by the proved program `batch` and by the reference: `requests SEED COUNT BATCH`.
-//! Exit status 1 where an answer line differs, or where fewer than COUNT were compared, or none of some verb.
+//! Exit status 1 where an answer line differs, or where what was compared is too little (`Tally::covering`).
 
 use comparison::request::{Request, Requests};
+use comparison::side::LANDED;
 use comparison::tally::{report, Tally};
-use reference::proto::{Options, Server};
+use reference::proto::Server;
 use std::io::Write;
 use std::process::{Command, ExitCode, Stdio};
 
@@ -22,9 +23,8 @@ fn answers_of_program(program: &str, input: String) -> Result<Vec<String>, Strin
     Ok(String::from_utf8_lossy(&output.stdout).lines().map(str::to_string).collect())
 }
 
-/// What the reference answers by document 01, each step of a run taken.
 fn answers_of_reference(requests: &[Request]) -> Vec<String> {
-    let mut server = Server::new(Options { no_leap: true, ..Options::default() });
+    let mut server = Server::new(LANDED);
     let answer = |request: &Request| {
         let mut answer = String::new();
         server.answer(&request.line(), &mut answer);
@@ -54,7 +54,7 @@ fn compare(requests: &[Request], proved: &[String], reference: &[String]) -> Res
     let mut tally = Tally::default();
     for ((request, ours), theirs) in requests.iter().zip(proved).zip(reference) {
         match kind(theirs) {
-            Some(kind) if ours == theirs => tally.add(request.call.verb(), kind),
+            Some(kind) if ours == theirs => tally.add(request, kind),
             _ => {
                 return Err(format!("the answers to a request differ\n{}\nproved:    {ours}\nreference: {theirs}", request.line()))
             }
@@ -80,6 +80,7 @@ fn main() -> ExitCode {
 #[cfg(test)]
 mod tests {
     use super::*;
+    use comparison::grant::{ended, AT};
 
     /// Requests with their right answers, and the answers with one change.
     fn compared(change: impl FnOnce(&mut Vec<String>)) -> Result<Tally, String> {
@@ -100,6 +101,13 @@ mod tests {
         for at in [0, 150, 299] {
             assert!(compared(|ours| ours[at].push_str(" 0")).is_err());
         }
+    }
+
+    /// The order of the ends before document 02, 2.2: `ran 2` where a value or a stuck state is reached on the last step.
+    #[test]
+    fn spent_first_is_noticed() {
+        let at = Requests::of_seed(7).position(|request| ended(&request) == AT).expect("a grant of the steps needed");
+        assert!(compared(|ours| ours[at].replace_range(4..5, "2")).is_err());
     }
 
     /// The answer to `kinds` has the counts behind the steps: `ran END STEPS BETA MU CANCEL LEFT | WORDS`.

@@ -35,3 +35,4 @@ pub mod RunDemand
 pub mod SafetyDemand
 pub mod NumberInjective
 pub mod Table
+pub mod LastStep

@@ -3,6 +3,7 @@
 use Prim.Native.Nat.{ℕ, _≤_, zero-le, min}
 use mathlib.Core.List.{List}
 use mathlib.Core.Path.{_≡_, refl, sym, subst}
+use mathlib.Core.Logic.{_↔_}
 use native.Mathlib.Decide.{decLe}
 use native.Mathlib.Omega.{arith}
 use lib.Dec.{lit≤}
@@ -12,34 +13,35 @@ use Rattle.calculus.specs.Answer.{Answer, ok, refused, _>>=_, _>>_, requ
 use Rattle.calculus.specs.Words.{longest}
 use Rattle.calculus.specs.Scan.{read}
 use Rattle.calculus.specs.Kinds.{total}
-use Rattle.calculus.specs.Outcomes.{run-room, Ran, course, ran, run}
+use Rattle.calculus.specs.Step.{Next}
+use Rattle.calculus.specs.Run.{End, Ends, run-until}
+use Rattle.calculus.specs.Outcomes.{run-room, Ran, course, ran, run-by, run}
 use Rattle.calculus.specs.Runs.{Runs, work-refused, state-refused, unread, ended, Demand2-run, CountsAddUp, RunRefusals}
 use Rattle.calculus.proofs.Comparisons.{le-leb, gt-leb}
 use Rattle.calculus.proofs.Says.{By, Says, says-ok, says-refused, of-ok, of-refused}
 use Rattle.calculus.proofs.ReadBack.{codes-read, misread-refused, read-sound, refused-misread, misread-numbers}
-use Rattle.calculus.proofs.Courses.{run-course, course-answer}
+use Rattle.calculus.proofs.Courses.{Tested, tested, until-course, until-answer}
 
-module _ (ws : List ℕ) (budget allowance : ℕ) (W S : List ℕ) where
-  pub run-answer : {c : Ran} → Runs ws budget allowance W S c → run ws budget allowance W S ≡ c
-  unfolding run ran course require _>>_ _>>=_
-  run-answer (work-refused w) = rw (gt-leb run-room (length W) w) refl
-  run-answer (state-refused w s) = rw (le-leb run-room (length W) w, gt-leb longest (length S) s) refl
-  run-answer (unread w s m) = rw (le-leb run-room (length W) w, le-leb longest (length S) s, misread-refused m) refl
-  run-answer (ended {n = n} w s c h q a b l f) =
+-- A run by any order of ends.
+module _ {Order : ℕ → ℕ → Term → End → Type 0} {last : Next → End} (T : Tested Order last) (ws : List ℕ) (budget allowance : ℕ)
+    (W S : List ℕ) where
+  run-by-answer : {c : Ran} → Runs Order ws budget allowance W S c → run-by (run-until last) ws budget allowance W S ≡ c
+  unfolding run-by ran course require _>>_ _>>=_
+  run-by-answer (work-refused w) = rw (gt-leb run-room (length W) w) refl
+  run-by-answer (state-refused w s) = rw (le-leb run-room (length W) w, gt-leb longest (length S) s) refl
+  run-by-answer (unread w s m) = rw (le-leb run-room (length W) w, le-leb longest (length S) s, misread-refused m) refl
+  run-by-answer (ended {n = n} w s c h q a b l f) =
       rw (
         le-leb run-room (length W) w,
         le-leb longest (length S) s,
         codes-read c,
-        course-answer
-            (min budget allowance)
-            n
-            (record { last = h; counted = q; adds = a; bounded = b; within = l; ends = f }),
+        until-answer T (min budget allowance) n (record { last = h; counted = q; adds = a; bounded = b; within = l; ends = f }),
       )
       refl
 
   -- One of the cases holds.
   abbrev Outcome : Type 0
-  Outcome = (c : Ran) × Runs ws budget allowance W S c
+  Outcome = (c : Ran) × Runs Order ws budget allowance W S c
 
   outcome : Outcome
   outcome = by-work (decLe run-room (length W))
@@ -47,7 +49,7 @@ module _ (ws : List ℕ) (budget allowance : ℕ) (W S : List ℕ) where
       by-reading : run-room ≤ length W → longest ≤ length S → (x : Answer Term) → read ws ≡ x → Outcome
       by-reading w s (ok t) e =
           let c = read-sound ws t e in
-          let k = run-course (min budget allowance) t (c .1 .short) in
+          let k = until-course T (min budget allowance) t (c .1 .short) in
           (_, ended w s c (k .last) (k .counted) (k .adds) (k .bounded) (k .within) (k .ends))
       by-reading w s (refused r p) e = (_, unread w s (refused-misread ws r p e))
 
@@ -59,18 +61,29 @@ module _ (ws : List ℕ) (budget allowance : ℕ) (W S : List ℕ) where
       by-work (yes w) = by-state w (decLe longest (length S))
       by-work (no w) = (_, work-refused (omega arith))
 
-  pub run-runs : Runs ws budget allowance W S (run ws budget allowance W S)
-  run-runs = subst (Runs ws budget allowance W S) (sym (run-answer (outcome .1))) (outcome .1)
+  run-by-runs : Runs Order ws budget allowance W S (run-by (run-until last) ws budget allowance W S)
+  run-by-runs = subst (Runs Order ws budget allowance W S) (sym (run-by-answer (outcome .1))) (outcome .1)
+
+  pub run-by-demand : (c : Ran) → (run-by (run-until last) ws budget allowance W S ≡ c) ↔ Runs Order ws budget allowance W S c
+  run-by-demand c = (λ e. subst (Runs Order ws budget allowance W S) e run-by-runs, run-by-answer)
 
 pub demand2-run : Demand2-run
-demand2-run ws budget allowance W S c =
-    (λ e. subst (Runs ws budget allowance W S) e (run-runs ws budget allowance W S), run-answer ws budget allowance W S)
+demand2-run = run-by-demand tested
+
+pub run-answer : (ws : List ℕ) (budget allowance : ℕ) (W S : List ℕ) {c : Ran}
+    → Runs Ends ws budget allowance W S c
+    → run ws budget allowance W S ≡ c
+run-answer ws budget allowance W S {c} = demand2-run ws budget allowance W S c .1
+
+pub run-runs : (ws : List ℕ) (budget allowance : ℕ) (W S : List ℕ)
+    → Runs Ends ws budget allowance W S (run ws budget allowance W S)
+run-runs ws budget allowance W S = demand2-run ws budget allowance W S _ .0 refl
 
 -- The counts of a run that ended add up.
 pub counts-add-up : CountsAddUp
 counts-add-up ws budget allowance W S s e = of-ok (rw e at (adding (run-runs ws budget allowance W S)))
   where
-    adding : {c : Ran} → Runs ws budget allowance W S c → Says (λ s. total (s .counts) ≡ s .steps) (λ r p. Unit {0}) (c .answer)
+    adding : {c : Ran} → Runs Ends ws budget allowance W S c → Says (λ s. total (s .counts) ≡ s .steps) (λ r p. Unit {0}) (c .answer)
     adding (work-refused w) = says-refused tt
     adding (state-refused w s) = says-refused tt
     adding (unread w s m) = says-refused tt
@@ -78,7 +91,7 @@ counts-add-up ws budget allowance W S s e = of-ok (rw e at (adding (run-runs ws 
 
 -- How far the numbers of a refusal reach.
 numbers : {ws : List ℕ} {budget allowance : ℕ} {W S : List ℕ} {c : Ran}
-    → Runs ws budget allowance W S c
+    → Runs Ends ws budget allowance W S c
     → Says (λ _. Unit {0}) (By 2 9 longest) (c .answer)
 unfolding number
 numbers (work-refused w) = says-refused (lit≤ tt, lit≤ tt, zero-le)

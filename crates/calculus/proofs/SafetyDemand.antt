@@ -10,7 +10,7 @@ use native.Mathlib.Omega.{arith}
 use Rattle.calculus.specs.Term.{Term, size}
 use Rattle.calculus.specs.Words.{Codes, longest}
 use Rattle.calculus.specs.Rules.{_⊢_⦂_}
-use Rattle.calculus.specs.Run.{State, state-zero, state-suc, End, at-stuck, Ends, ends-spent, ends-value, ends-stuck, ends-long}
+use Rattle.calculus.specs.Run.{State, state-zero, state-suc, End, at-stuck, Ends, ends-value, ends-stuck, ends-spent, ends-long}
 use Rattle.calculus.specs.Outcomes.{Ran, run}
 use Rattle.calculus.specs.Runs.{Runs, work-refused, state-refused, unread, ended}
 use Rattle.calculus.specs.Safety.{Only, Safe, Safely, work-refused as work-refused′, state-refused as state-refused′, ended as ended′, SafeRun, Demand3}
@@ -35,9 +35,9 @@ safe {τ} {x} d =
     }
 
 not-stuck : {g n : ℕ} {x τ : Term} {E : End} → [] ⊢ x ⦂ τ → Ends g n x E → E ≢ at-stuck
-not-stuck d (ends-spent h) e = absurd (true≢false (cc e))
 not-stuck d (ends-value h v) e = absurd (true≢false (cc e))
 not-stuck d (ends-stuck h v s) e = ⊎-elim v s (progress d)
+not-stuck d (ends-spent h s) e = absurd (true≢false (cc e))
 not-stuck d (ends-long h s l) e = absurd (true≢false (cc e))
 
 -- The states before a state.
@@ -52,7 +52,7 @@ state-before {t} k l (state-suc {k = m} {y = y} h s) = on (λ l. state-before k 
 safely : {ws : List ℕ} {budget allowance : ℕ} {W S : List ℕ} {t τ : Term} {c : Ran}
     → Codes ws t
     → [] ⊢ t ⦂ τ
-    → Runs ws budget allowance W S c
+    → Runs Ends ws budget allowance W S c
     → Safely t τ (min budget allowance) W S (c .answer)
 safely c d (work-refused w) = work-refused′ w
 safely c d (state-refused w s) = state-refused′ w s

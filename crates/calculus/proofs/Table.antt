@@ -15,7 +15,7 @@ use Rattle.calculus.specs.Rules.{_⟶_, env-empty}
 use Rattle.calculus.specs.Kinds.{Kind, by-substitution, by-unfolding, by-cancellation, kind, Counts, counts, counting, total, Counted, counted-none, counted-more}
 use Rattle.calculus.specs.Step.{Next, value, stuck, next, under, applied, cancelled, step}
 use Rattle.calculus.specs.Infer.{annotation, same, measure, product, stepped, infer}
-use Rattle.calculus.specs.Run.{State, state-zero, state-suc, ends-spent, End, spent, end-number, Ended, done, one-more, advance, run-from}
+use Rattle.calculus.specs.Run.{State, state-zero, state-suc, End, spent, end-number, Ends, ends-spent, Ended, done, one-more, advance, last-end, run-until, run-from}
 use Rattle.calculus.specs.Outcomes.{largest-limit}
 use Rattle.calculus.specs.Checks.{Allowed, untyped, typed}
 use Rattle.calculus.specs.Runs.{ended}
@@ -168,7 +168,7 @@ refuses-claim ws L r p {t} a e i =
 
 ends-claim : (ws : List ℕ) (budget : ℕ) (E : End) (n : ℕ) (c : Counts) (out : List ℕ) {t x : Term}
     → read ws ≡ ok t
-    → Course budget t E n c x
+    → Course Ends budget t E n c x
     → words x ≡ out
     → Claim (ends ws budget E n c out)
 unfolding Claim
@@ -199,7 +199,7 @@ module _ {t : Term} (s : t ⟶ t) (u : kind s ≡ by-unfolding) where
   unfoldings zero = counted-none
   unfoldings (suc k) = subst (λ j. Counted t (counting j (counts 0 k 0)) t) u (counted-more (unfoldings k) s)
 
-  spinning-course : size t ≤ longest → (g : ℕ) → Course g t spent g (counts 0 g 0) t
+  spinning-course : size t ≤ longest → (g : ℕ) → Course Ends g t spent g (counts 0 g 0) t
   unfolding total
   spinning-course h g =
       record {
@@ -208,7 +208,7 @@ module _ {t : Term} (s : t ⟶ t) (u : kind s ≡ by-unfolding) where
         adds = omega arith;
         bounded = λ k y l r. rw (state-unique r (spinning k)) h;
         within = omega arith;
-        ends = ends-spent refl;
+        ends = ends-spent refl (t, s);
       }
 
   spins-claim : (ws : List ℕ) → read ws ≡ ok t → Claim (spins ws)
@@ -256,7 +256,7 @@ rows-claim (r ∷ rs) h =
     (row-claim r i, rows-claim rs j)
 
 rows : Claims starred × Claims examples
-unfolding rows-hold row-holds same-words on-answer refused-by on-next allowed ended-by same-counts unfolds read scan test means meaning bound binds node node₁ node₂ below the-first _>>=_ _>>_ require number infer annotation measure product stepped same decide size raise substitute step under applied cancelled words emit run-from advance done one-more counting end-number
+unfolding rows-hold row-holds same-words on-answer refused-by on-next allowed ended-by same-counts unfolds read scan test means meaning bound binds node node₁ node₂ below the-first _>>=_ _>>_ require number infer annotation measure product stepped same decide size raise substitute step under applied cancelled words emit run-until last-end advance done one-more counting end-number
 rows = (rows-claim starred tt, rows-claim examples tt)
 
 pub starred-terms : StarredTerms

@@ -20,3 +20,5 @@ pub mod Runs
 pub mod Safety
 pub mod Starred
 pub mod MoreLimit
+pub mod Earlier
+pub mod Changes

@@ -70,13 +70,13 @@ pub record Ran : Type 0 where
   pub work : List ℕ
   pub state : List ℕ
 
--- The refusals in document 01's order, and otherwise the run within the grant.
-unfoldable pub course : List ℕ → ℕ → List ℕ → List ℕ → Answer Ended
-course ws grant W S = do
+-- The refusals in document 01's order, and otherwise the run within the grant, which `go` is.
+unfoldable pub course : (ℕ → Term → Ended) → List ℕ → ℕ → List ℕ → List ℕ → Answer Ended
+course go ws grant W S = do
   require work-short 0 (leb run-room (length W))
   require output-short 0 (leb longest (length S))
   t ← read ws
-  ok (run-from grant t)
+  ok (go grant t)
 
 -- "The desk with the allowance lowered by exactly those steps. [...] A refused call leaves output, state and desk unchanged."
 unfoldable pub ran : ℕ → List ℕ → List ℕ → Answer Ended → Ran
@@ -90,8 +90,11 @@ ran allowance W S (ok e) =
 ran allowance W S (refused r p) = record { answer = refused r p; allowance = allowance; work = W; state = S }
 
 -- "The grant is the smaller of budget and allowance."
-unfoldable pub run : List ℕ → ℕ → ℕ → List ℕ → List ℕ → Ran
-run ws budget allowance W S = ran allowance W S (course ws (min budget allowance) W S)
+unfoldable pub run-by : (ℕ → Term → Ended) → List ℕ → ℕ → ℕ → List ℕ → List ℕ → Ran
+run-by go ws budget allowance W S = ran allowance W S (course go ws (min budget allowance) W S)
+
+abbrev pub run : List ℕ → ℕ → ℕ → List ℕ → List ℕ → Ran
+run = run-by run-from
 
 -- A part lookup as a function: where the part stands in the caller's own words. "For a list that is no closed term, and for a part
 -- that isn't there, it hands back an empty part", here at place 0. Believed only through the theorems of `Parts`. (`length` is the

@@ -1,6 +1,6 @@
 -- Runs (document 01, Calls): the states by the published relation, and a run as a function beside them, believed only through the
 -- theorem of demand 2.
-use Prim.Native.Nat.{ℕ, zero, suc, _<_}
+use Prim.Native.Nat.{ℕ, zero, suc, _≤_, _<_}
 use mathlib.Core.Bool.{cond}
 use mathlib.Core.Path.{_≡_}
 use lib.Dec.{leb}
@@ -30,12 +30,13 @@ end-number too-long = 4
 abbrev pub EndNumbersApart : Type 0
 EndNumbersApart = (a b : End) → end-number a ≡ end-number b → a ≡ b
 
--- `Ends g n x E`: after `n` of the `g` steps granted, at the state `x`, the run's end is E. "Ends, tested in this order before each
--- step: 2 spent, steps equal the grant; 1 value; 3 stuck; 4 the next state is over 1,024 words."
+-- `Ends g n x E`: after `n` of the `g` steps granted, at the state `x`, the run's end is E, the first that holds there. "The ends are
+-- now tested in the order value, stuck, spent, too long" (document 02, 2.2): a run is spent where its grant is used and its state can
+-- step.
 pub data Ends (g n : ℕ) (x : Term) : End → Type 0 where
-  ends-spent : n ≡ g → Ends g n x spent
-  ends-value : n < g → Value x → Ends g n x at-value
-  ends-stuck : n < g → ¬ Value x → ¬ CanStep x → Ends g n x at-stuck
+  ends-value : n ≤ g → Value x → Ends g n x at-value
+  ends-stuck : n ≤ g → ¬ Value x → ¬ CanStep x → Ends g n x at-stuck
+  ends-spent : n ≡ g → CanStep x → Ends g n x spent
   ends-long : {y : Term} → n < g → x ⟶ y → longest < size y → Ends g n x too-long
 
 -- What a run comes to: its end, its steps, in all and by kind, and its last state.
@@ -59,7 +60,16 @@ advance go x value = done at-value x
 advance go x stuck = done at-stuck x
 advance go x (next k y) = cond (leb (size y) longest) (one-more k (go y)) (done too-long x)
 
--- The run from the state `x` within a grant.
-unfoldable pub run-from : ℕ → Term → Ended
-run-from zero x = done spent x
-run-from (suc g) x = advance (run-from g) x (step x)
+-- The end of a run whose grant is used, by what its state does.
+unfoldable pub last-end : Next → End
+last-end value = at-value
+last-end stuck = at-stuck
+last-end (next k y) = spent
+
+-- The run from the state `x` within a grant; `last` tells its end where the grant is used.
+unfoldable pub run-until : (Next → End) → ℕ → Term → Ended
+run-until last zero x = done (last (step x)) x
+run-until last (suc g) x = advance (run-until last g) x (step x)
+
+abbrev pub run-from : ℕ → Term → Ended
+run-from = run-until last-end

@@ -13,22 +13,23 @@ use Rattle.calculus.specs.Kinds.{Counts, total, Counted}
 use Rattle.calculus.specs.Run.{State, End, Ends}
 use Rattle.calculus.specs.Outcomes.{run-room, begun, cleared, Stop, Ran, run}
 
--- `Runs ws budget allowance W S c`: a run of the words `ws`, with the working slice W and the state slice S, leaves `c`.
-pub data Runs (ws : List ℕ) (budget allowance : ℕ) (W S : List ℕ) : Ran → Type 0 where
+-- `Runs Order ws budget allowance W S c`: a run of the words `ws`, with the working slice W and the state slice S, leaves `c`. `Order`
+-- tells its end, as `Ends` does.
+pub data Runs (Order : ℕ → ℕ → Term → End → Type 0) (ws : List ℕ) (budget allowance : ℕ) (W S : List ℕ) : Ran → Type 0 where
   work-refused : length W < run-room
-      → Runs ws budget allowance W S (record { answer = refused work-short 0; allowance = allowance; work = W; state = S })
+      → Runs Order ws budget allowance W S (record { answer = refused work-short 0; allowance = allowance; work = W; state = S })
   state-refused : run-room ≤ length W → length S < longest
-      → Runs ws budget allowance W S (record { answer = refused output-short 0; allowance = allowance; work = W; state = S })
+      → Runs Order ws budget allowance W S (record { answer = refused output-short 0; allowance = allowance; work = W; state = S })
   unread : {r : Reason} {p : ℕ} → run-room ≤ length W → longest ≤ length S → Misread ws r p
-      → Runs ws budget allowance W S (record { answer = refused r p; allowance = allowance; work = W; state = S })
+      → Runs Order ws budget allowance W S (record { answer = refused r p; allowance = allowance; work = W; state = S })
   -- "A run that answers n steps has the states 0 to n; state n is the one with which its state slice then begins, and its end is the
   -- first under Calls that holds there." "Each count is the number of such steps in the definition, and the three add up to the
   -- total."
   ended : {E : End} {n : ℕ} {c : Counts} {t x : Term} → run-room ≤ length W → longest ≤ length S
       → Codes ws t → State t n x → Counted t c x → total c ≡ n
       → ((k : ℕ) (y : Term) → k ≤ n → State t k y → size y ≤ longest)
-      → n ≤ min budget allowance → Ends (min budget allowance) n x E
-      → Runs ws budget allowance W S (record {
+      → n ≤ min budget allowance → Order (min budget allowance) n x E
+      → Runs Order ws budget allowance W S (record {
         answer = ok (record { end = E; steps = n; counts = c });
         allowance = allowance - n;
         work = cleared run-room W;
@@ -38,7 +39,7 @@ pub data Runs (ws : List ℕ) (budget allowance : ℕ) (W S : List ℕ) : Ran �
 -- Answer, steps, counts, desk and every word of both slices, of every run.
 abbrev pub Demand2-run : Type 0
 Demand2-run = (ws : List ℕ) (budget allowance : ℕ) (W S : List ℕ) (c : Ran)
-    → (run ws budget allowance W S ≡ c) ↔ Runs ws budget allowance W S c
+    → (run ws budget allowance W S ≡ c) ↔ Runs Ends ws budget allowance W S c
 
 -- Of every run that ends, the three counts add up to the steps.
 abbrev pub CountsAddUp : Type 0

@@ -23,7 +23,8 @@ pub record Safe (τ x : Term) : Type 0 where
   pub progress : (Value x × ¬ CanStep x) ⊎ (¬ Value x × ((y : Term) × Only (λ z. x ⟶ z) y))
 
 -- What a run answers that begins at `t`, whose type a check answered to be τ. "A refused run has no states and no end"; here it is
--- refused only for a short slice. "So the run ends only at a value, with its grant used, or before a state over 1,024 words."
+-- refused only for a short slice. "So the run ends only at a value, with its grant used, or before a state over 1,024 words": by
+-- `Ends`, with its grant used at a state that can step.
 pub data Safely (t τ : Term) (grant : ℕ) (W S : List ℕ) : Answer Stop → Type 0 where
   work-refused : length W < run-room → Safely t τ grant W S (refused work-short 0)
   state-refused : run-room ≤ length W → length S < longest → Safely t τ grant W S (refused output-short 0)

@@ -10,7 +10,7 @@ use lib.ListN.{length}
 use Rattle.calculus.specs.Term.{Term}
 use Rattle.calculus.specs.Words.{words, Readable, longest}
 use Rattle.calculus.specs.Answer.{ok}
-use Rattle.calculus.specs.Run.{run-from}
+use Rattle.calculus.specs.Run.{Ends, run-from}
 use Rattle.calculus.specs.Outcomes.{Ran, begun, run, run-room}
 use Rattle.calculus.specs.Runs.{Runs, ended}
 use Rattle.calculus.specs.Safety.{SafeRun}
@@ -37,7 +37,7 @@ module _ (ws : List ℕ) (budget allowance : ℕ) (W S : List ℕ) where
   meets : {c : Ran} → run ws budget allowance W S ≡ c → Meets c
   meets e = (sym e, subst (SafeRun ws budget allowance W S) e (demand3 .0 ws budget allowance W S))
 
-  pub meets-runs : {c : Ran} → Runs ws budget allowance W S c → Meets c
+  pub meets-runs : {c : Ran} → Runs Ends ws budget allowance W S c → Meets c
   meets-runs r = meets (run-answer ws budget allowance W S r)
 
   -- The course of a run, and the outcome that it leaves.

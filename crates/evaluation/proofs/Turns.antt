@@ -12,7 +12,7 @@ use Rattle.calculus.specs.Term.{Term, size}
 use Rattle.calculus.specs.Words.{longest}
 use Rattle.calculus.specs.Kinds.{Kind, by-substitution, by-unfolding, by-cancellation, Counts, counts, counting}
 use Rattle.calculus.specs.Step as calculus
-use Rattle.calculus.specs.Run.{at-value, at-stuck, too-long, Ended, done, one-more, run-from}
+use Rattle.calculus.specs.Run.{at-value, at-stuck, too-long, Ended, done, one-more, last-end, run-until, run-from}
 use Rattle.calculus.specs.Run as run
 use Rattle.calculus.proofs.Comparisons.{le-leb, gt-leb}
 use Rattle.reduction.specs.declared.stepping.Kind as code
@@ -77,7 +77,7 @@ Turned g x count after (stepped.To K n) =
 turned : (g : ℕ) (x : Term) (work : List ℕ) (count : ℕ) (after : List ℕ) (r : Stepped)
     → Advances (calculus.step x) work count x r after
     → Turned g x count after r
-unfolding Advances Turned run-from run.advance
+unfolding Advances Turned run-until run.advance
 turned g x work count after r a = on (calculus.step x) refl a
   where
     on : (n : calculus.Next) → calculus.step x ≡ n → Advances n work count x r after → Turned g x count after r
@@ -123,12 +123,14 @@ module _ {grant : ℕ} {taken : Steps} {t : Term} {work : List ℕ} {count : ℕ
       (sym (h .course ∙ ap (λ g. later taken (run-from g (h .state))) n ∙ ap (later taken) e))
       (record { end = refl; steps = sym (add-zero (taken .total)); counts = sym (both-none (counts-of taken)); holds = k; behind = b })
 
-  pub performs-spent : {start : List ℕ}
+  -- A run whose grant is used.
+  pub performs-last : {start : List ℕ} {E : End}
       → taken .total ≡ grant
+      → end-of E ≡ last-end (calculus.step (h .state))
       → drop longest work ≡ drop longest start
-      → Performs (run-from grant t) start (record { end = end.Spent; steps = taken; length = count }) work
-  unfolding run-from
-  performs-spent n b = ends end.Spent 0 (omega arith) refl (h .holds) b
+      → Performs (run-from grant t) start (record { end = E; steps = taken; length = count }) work
+  unfolding run-until
+  performs-last {E} n e b = ends E 0 (omega arith) (ap (λ E. done E (h .state)) (sym e)) (h .holds) b
 
   -- A turn.
   module _ (l : taken .total < grant) (r : Stepped) (after : List ℕ) (a : Advances (calculus.step (h .state)) work count (h .state) r after) where

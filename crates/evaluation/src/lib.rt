@@ -2,7 +2,9 @@
 use reduction::clearing::clear;
 use reduction::copying::copy;
 use reduction::stepping::Kind;
+use reduction::stepping::Redex;
 use reduction::stepping::Stepped;
+use reduction::stepping::find_redex;
 use reduction::stepping::step;
 use term::reading::Reading;
 use term::reading::read;
@@ -15,10 +17,10 @@ ghost use Rattle.calculus.specs.Term.{Term};
 ghost use Rattle.calculus.specs.Words.{Readable, words, longest};
 ghost use Rattle.calculus.specs.Kinds.{counting};
 ghost use Rattle.calculus.specs.Step as calculus;
-ghost use Rattle.calculus.specs.Run.{run-from};
+ghost use Rattle.calculus.specs.Run.{last-end, run-from};
 ghost use Rattle.calculus.specs.Outcomes.{begun, run, run-room};
 ghost use Rattle.calculus.specs.Safety.{SafeRun};
-ghost use Rattle.reduction.specs.Stepping.{kind-of};
+ghost use Rattle.reduction.specs.Stepping.{Coded, kind-of};
 ghost use Rattle.evaluation.specs.Courses.{AddUp, Advances, Holds, Performs, ended};
 ghost use Rattle.evaluation.specs.Outcomes.{counts-of, end-of, ran-of};
 
@@ -97,7 +99,20 @@ fn advance(work: &mut [u16], copied: &mut [u16], count: usize) -> Stepped
     stepped
 }
 
-// Runs the term: the ends are tested in document 01's order before each step.
+// The end of a run whose grant is used: its state tells it, and no step is written.
+fn last_end(state: &[u16]) -> End
+    requires { ⌜ Coded (now state) ⌝ }
+    ensures { λ r. ⌜ ((x : Term) → now (state .entry) ≡ words x → end-of r ≡ last-end (calculus.step x)) ⌝ }
+{
+    match find_redex(state) {
+        Redex::Value => End::Value,
+        Redex::Stuck => End::Stuck,
+        Redex::Beta(_) | Redex::Cancel(_) | Redex::Unfold(_) => End::Spent,
+    }
+}
+
+// Runs the term. The ends are tested in the order value, stuck, spent, too long: while a step is left, the step itself tells a value
+// or a stuck state before it writes, and only then a state that does not fit.
 fn perform(term: &[u16], grant: u32, work: &mut [u16]) -> Course
     requires { ⌜ (longest ≤ length (now work)) × ((t : Term) × (now term ≡ words t) × Readable t) ⌝ }
     ensures { λ r. ⌜ ((t : Term) → now (term .entry) ≡ words t → Readable t → Performs (run-from grant t) (now (work .entry)) r (now (work .exit))) ⌝ }
@@ -140,8 +155,9 @@ fn perform(term: &[u16], grant: u32, work: &mut [u16]) -> Course
             }
         }
     }
+    let end = last_end(&work[..count]);
     Course {
-        end: End::Spent,
+        end,
         steps,
         length: count,
     }

@@ -14,7 +14,7 @@ ghost use Rattle.term.specs.Walk.{span};
 ghost use Rattle.reduction.specs.Stepping.{Arrives, Coded, CodesWithin, Finishes, Located, Replaceable, Tells, heads, locate, replaced};
 
 // Where a state steps and by which rule: the place of the application, of the down cast or of the recursion.
-enum Redex {
+pub enum Redex {
     Value,
     Stuck,
     Beta(usize),
@@ -54,8 +54,8 @@ fn leading(state: &[u16]) -> usize
     at
 }
 
-// The redex of a state.
-fn find_redex(state: &[u16]) -> Redex
+// The redex of a state: the half of a step that writes nothing.
+pub fn find_redex(state: &[u16]) -> Redex
     requires { ⌜ Coded (now state) ⌝ }
     ensures { λ r. ⌜ ((t : Term) → now (state .entry) ≡ words t → r ≡ locate t) ⌝ }
 {

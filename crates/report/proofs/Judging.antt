@@ -13,7 +13,7 @@ use Rattle.calculus.specs.Words.{words, longest}
 use Rattle.calculus.specs.Scan.{read}
 use Rattle.calculus.specs.Infer.{infer}
 use Rattle.calculus.specs.Run.{Ended, run-from}
-use Rattle.calculus.specs.Outcomes.{check-room, run-room, begun, cleared, verdict, checked, check, course, ran, run}
+use Rattle.calculus.specs.Outcomes.{check-room, run-room, begun, cleared, verdict, checked, check, course, ran, run-by, run}
 use Rattle.calculus.proofs.Comparisons.{le-leb}
 use Rattle.calculus.proofs.Coding.{emit-append, words-length}
 use Rattle.calculus.proofs.NumberInjective.{number-not-zero}
@@ -118,7 +118,7 @@ module _ (ws W O : List ℕ) (room : check-room limit ≤ length W) (space : lim
       → Numbered-run (run ws budget allowance W₁ S) m W₂ S₂
       → k ≡ span S₂ 1
       → Tells (told (judged ws)) (found n m k) O O₁ S S₂
-  unfolding checked checked-numbers told course require _>>_ _>>=_ run ran ran-numbers
+  unfolding checked checked-numbers told course require _>>_ _>>=_ run-by ran ran-numbers
   accepted-tells n m k S {W₁} {O₁} {W₂} {S₂} free h none g e = on (judges ws) (rw checks at h)
     where
       on : {x : Answer Term} {y : Answer (Term × Ended)}

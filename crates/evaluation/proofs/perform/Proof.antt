@@ -14,9 +14,9 @@ use Rattle.calculus.specs.Run.{run-from}
 use Rattle.calculus.proofs.Counting.{total-counting}
 use Rattle.reduction.specs.declared.stepping.Stepped.{Stepped}
 use Rattle.evaluation.specs.declared.End.{End}
-use Rattle.evaluation.specs.Courses.{AddUp, Advances, Performs}
-use Rattle.evaluation.proofs.States.{readable-spells, copied-held, copied-behind}
-use Rattle.evaluation.proofs.Turns.{Reaches, reaches-first, reaches-next, Stops, stops-value, stops-stuck, stops-long, performs-stop, performs-spent, turn-behind}
+use Rattle.evaluation.specs.Courses.{AddUp, Advances, Holds, Performs}
+use Rattle.evaluation.proofs.States.{readable-spells, spells-length, copied-held, copied-behind}
+use Rattle.evaluation.proofs.Turns.{Reaches, reaches-first, reaches-next, Stops, stops-value, stops-stuck, stops-long, performs-stop, performs-last, turn-behind}
 use Rattle.evaluation.proofs.perform.Statement.{statement}
 use Rattle.evaluation.proofs.perform.Tie as tie
 
@@ -79,14 +79,22 @@ loop-holds c =
       λ t e r. reaches-first (copied-held (c .before .before .copy .ensures) (readable-spells (now (start .args .term)) e r) (start .pre .0)),
     )
 
+-- There is a state at the front at the loop's head, within a slice that is as long as ever.
+present : (c : tie.At-loop Inv-loop μ-loop) → (x : Term) × Holds (c .loop .work) (c .loop .count) x
+present c =
+    let (t, e, r) = c .before .before .before .before .before .before .before .pre .1 in
+    let h = c .loop .inv .5 t e r in
+    (h .state, h .holds)
+
+long : (c : tie.At-loop Inv-loop μ-loop) → longest ≤ length (c .loop .work)
+long c =
+    omega
+    (arith, c .before .before .before .before .before .before .before .pre .0, c .loop .inv .2, c .before .before .before .copy .kept .1 .0)
+
 advance-requires : tie.Need-advance-requires Inv-loop μ-loop
 advance-requires c κs =
     let loop = c .before .before .before .before in
-    let start = loop .before .before .before .before .before .before .before in
-    let (t, e, r) = start .pre .1 in
-    let h = loop .loop .inv .5 t e r in
-    let long : longest ≤ length (loop .loop .work) = omega (arith, loop .loop .inv .2, loop .before .before .before .copy .kept .1 .0) in
-    (long, loop .loop .inv .3, (h .state, h .holds))
+    (long loop, loop .loop .inv .3, present loop)
 
 returns : tie.Need-returns Inv-loop μ-loop
 returns c t e r = stops (c .before .before .before .before .before) t e r stops-value (c .enum-told .given .1)
@@ -120,8 +128,26 @@ loop-again c =
           (c .counted .result) (c .before .before .kind .given .1) many each,
     )
 
+-- The run at a used grant: its state is what `last_end` looks at.
+slice-reshare-prefix-last-end : tie.Need-slice-reshare-prefix-last-end Inv-loop μ-loop
+slice-reshare-prefix-last-end c =
+    let loop = c .before .before in
+    let (x, h) = present loop in
+    omega (arith, long loop, h .front .extent, h .front .short)
+
+slice-aggregate-last-end : tie.Need-slice-aggregate-last-end Inv-loop μ-loop
+slice-aggregate-last-end c = sym (spells-length (present (c .before .before .before) .1 .front))
+
+last-end-requires : tie.Need-last-end-requires Inv-loop μ-loop
+last-end-requires c κs =
+    let (x, h) = present (c .before .before .before) in
+    (x, h .front .coded)
+
 returns-4 : tie.Need-returns-4 Inv-loop μ-loop
-returns-4 c t e r = performs-spent (c .before .before .loop .inv .5 t e r) (omega arith) (behind (c .before .before))
+returns-4 c t e r =
+    let loop = c .before .before .before .before in
+    let reached = loop .loop .inv .5 t e r in
+    performs-last reached (omega arith) (c .last-end .ensures (reached .state) (reached .holds .front .coded)) (behind loop)
 
 pub perform-spec : {M : Type 1} → statement M
 perform-spec =
@@ -130,4 +156,4 @@ perform-spec =
     Inv-loop μ-loop (λ c κs. search needs) loop-holds (λ c. sym (c .before .before .before .before .loop .inv .3)) advance-requires
     (λ c. search needs) (λ c. search needs) returns (λ c. search needs) (λ c. search needs) returns-2 (λ c. search needs)
     (λ c. search needs) returns-3 (λ c. search needs) counted-requires (λ c. omega (arith, c .counted .ensures .0)) loop-again
-    (λ c. search needs) returns-4)
+    slice-reshare-prefix-last-end slice-aggregate-last-end last-end-requires (λ c. search needs) returns-4)

@@ -25,8 +25,9 @@ pub fn each(options: &Options, output: &mut impl Write, status: &mut u8) -> io::
 }
 
 /// State k is that of a run of the term with budget k, and the counts of the runs with budgets k and k + 1 tell the rule of step k + 1.
-/// Each run begins at the term itself, though n states then take some n × n / 2 steps: what is proved of the counts is about such
-/// runs, and a state of more than 64 levels could not be run as a term.
+/// The first run that is not spent is the last: its state has no step, or one that is too long. Each run begins at the term itself,
+/// though n states then take some n × n / 2 steps: what is proved of the counts is about such runs, and a state of more than 64 levels
+/// could not be run as a term.
 fn trace(form: Form, input: &Input, term: &[u16], output: &mut impl Write) -> io::Result<Result<(), Refusal>> {
     let mut buffers = Buffers::for_limit(1);
     let mut before = None;
@@ -38,6 +39,7 @@ fn trace(form: Form, input: &Input, term: &[u16], output: &mut impl Write) -> io
             Err(refusal) => return Ok(Err(refusal)),
         };
         let mut answers = Answers::default();
+        // a step to a state that is too long is not taken: the state before it stands there already
         if ended.steps == budget {
             reached(form, input, before.map(|before| rule(before, ended)), ended.steps, state, &mut answers);
         }

@@ -1,0 +1,32 @@
+-- What an earlier version said, as far as the statements of `Changes` need it. Nothing else reads this file.
+use Prim.Native.Nat.{ℕ, _<_}
+use mathlib.Core.List.{List}
+use mathlib.Core.Path.{_≡_}
+use mathlib.Core.Logic.{_↔_}
+use Rattle.calculus.specs.Term.{Term, size}
+use Rattle.calculus.specs.Words.{longest}
+use Rattle.calculus.specs.Rules.{_⟶_, CanStep, Value}
+use Rattle.calculus.specs.Step.{Next}
+use Rattle.calculus.specs.Run.{End, at-value, spent, at-stuck, too-long, run-until}
+use Rattle.calculus.specs.Outcomes.{Ran, run-by}
+use Rattle.calculus.specs.Runs.{Runs}
+
+-- Until document 02, 2.2. Document 01: "Ends, tested in this order before each step: 2 spent, steps equal the grant; 1 value; 3 stuck;
+-- 4 the next state is over 1,024 words."
+pub data Ends (g n : ℕ) (x : Term) : End → Type 0 where
+  ends-spent : n ≡ g → Ends g n x spent
+  ends-value : n < g → Value x → Ends g n x at-value
+  ends-stuck : n < g → ¬ Value x → ¬ CanStep x → Ends g n x at-stuck
+  ends-long : {y : Term} → n < g → x ⟶ y → longest < size y → Ends g n x too-long
+
+-- A run whose grant was used was spent, whatever its state does.
+unfoldable pub last-end : Next → End
+last-end m = spent
+
+abbrev pub run : List ℕ → ℕ → ℕ → List ℕ → List ℕ → Ran
+run = run-by (run-until last-end)
+
+-- It is the run whose ends are those.
+abbrev pub Demand2-run : Type 0
+Demand2-run = (ws : List ℕ) (budget allowance : ℕ) (W S : List ℕ) (c : Ran)
+    → (run ws budget allowance W S ≡ c) ↔ Runs Ends ws budget allowance W S c
