@@ -1,9 +1,10 @@
 -- Demand 2 for runs. Whatever `Runs` says is what `run` answers, by computing through the tests and, past them, since a run has one
 -- course; and `Runs` says something of every call, since each test is decided and every run has a course.
 use Prim.Native.Nat.{ℕ, _≤_, zero-le, min}
+use mathlib.Core.Bool.{true≢false}
 use mathlib.Core.List.{List}
+use mathlib.Core.Logic.{_↔_, ⊎-elim}
 use mathlib.Core.Path.{_≡_, refl, sym, subst}
-use mathlib.Core.Logic.{_↔_}
 use native.Mathlib.Decide.{decLe}
 use native.Mathlib.Omega.{arith}
 use lib.Dec.{lit≤}
@@ -14,9 +15,9 @@ use Rattle.calculus.specs.Words.{longest}
 use Rattle.calculus.specs.Scan.{read}
 use Rattle.calculus.specs.Kinds.{total}
 use Rattle.calculus.specs.Step.{Next}
-use Rattle.calculus.specs.Run.{End, Ends, run-until}
+use Rattle.calculus.specs.Run.{End, Ends, ends-value, ends-stuck, ends-spent, ends-long, run-until}
 use Rattle.calculus.specs.Outcomes.{run-room, Ran, course, ran, run-by, run}
-use Rattle.calculus.specs.Runs.{Runs, work-refused, state-refused, unread, ended, Demand2-run, CountsAddUp, RunRefusals}
+use Rattle.calculus.specs.Runs.{Runs, work-refused, state-refused, unread, ended, Demand2-run, CountsAddUp, Rests, SameAgain, EnoughSteps, RunRefusals}
 use Rattle.calculus.proofs.Comparisons.{le-leb, gt-leb}
 use Rattle.calculus.proofs.Says.{By, Says, says-ok, says-refused, of-ok, of-refused}
 use Rattle.calculus.proofs.ReadBack.{codes-read, misread-refused, read-sound, refused-misread, misread-numbers}
@@ -78,6 +79,24 @@ run-answer ws budget allowance W S {c} = demand2-run ws budget allowance W S c .
 pub run-runs : (ws : List ℕ) (budget allowance : ℕ) (W S : List ℕ)
     → Runs Ends ws budget allowance W S (run ws budget allowance W S)
 run-runs ws budget allowance W S = demand2-run ws budget allowance W S _ .0 refl
+
+-- A run at rest has the same end with every grant of its steps or more, and so the same outcome.
+rests-within : {g g′ n : ℕ} {x : Term} {E : End} → Ends g n x E → Rests E → n ≤ g′ → Ends g′ n x E
+rests-within (ends-value h v) r l = ends-value l v
+rests-within (ends-stuck h v s) r l = ends-stuck l v s
+rests-within (ends-spent e s) r l = absurd (⊎-elim (λ e. true≢false (cc e)) (λ e. true≢false (cc e)) r)
+rests-within (ends-long h s l′) r l = absurd (⊎-elim (λ e. true≢false (cc e)) (λ e. true≢false (cc e)) r)
+
+pub enough-steps : EnoughSteps
+enough-steps ws budget allowance W S s e = of-ok (rw e at (again (run-runs ws budget allowance W S)))
+  where
+    again : {c : Ran} → Runs Ends ws budget allowance W S c → Says (SameAgain ws W S c) (λ r p. Unit {0}) (c .answer)
+    again (work-refused w) = says-refused tt
+    again (state-refused w s) = says-refused tt
+    again (unread w s m) = says-refused tt
+    again (ended w s c k q a b l f) =
+        says-ok λ budget′ allowance′ r m.
+        run-answer ws budget′ allowance′ W S (ended w s c k q a b (omega arith) (rests-within f r (omega arith)))
 
 -- The counts of a run that ended add up.
 pub counts-add-up : CountsAddUp

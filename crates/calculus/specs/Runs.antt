@@ -3,14 +3,14 @@
 use Prim.Native.Nat.{ℕ, _≤_, _<_, _-_, min}
 use mathlib.Core.List.{List}
 use mathlib.Core.Path.{_≡_}
-use mathlib.Core.Logic.{_↔_}
+use mathlib.Core.Logic.{_↔_, _⊎_}
 use lib.ListN.{length}
 use Rattle.calculus.specs.Term.{Term, size}
 use Rattle.calculus.specs.Answer.{ok, refused, Reason, number, work-short, output-short}
 use Rattle.calculus.specs.Words.{words, Codes, longest}
 use Rattle.calculus.specs.Reading.{Misread}
 use Rattle.calculus.specs.Kinds.{Counts, total, Counted}
-use Rattle.calculus.specs.Run.{State, End, Ends}
+use Rattle.calculus.specs.Run.{State, End, at-value, at-stuck, Ends}
 use Rattle.calculus.specs.Outcomes.{run-room, begun, cleared, Stop, Ran, run}
 
 -- `Runs Order ws budget allowance W S c`: a run of the words `ws`, with the working slice W and the state slice S, leaves `c`. `Order`
@@ -49,6 +49,20 @@ CountsAddUp = (ws : List ℕ) (budget allowance : ℕ) (W S : List ℕ) (s : Sto
 -- The states with counts are the states, and the total of the counts is the number of the state.
 abbrev pub CountsOfStates : Type 0
 CountsOfStates = (t : Term) (k : ℕ) (x : Term) → State t k x ↔ ((c : Counts) × (total c ≡ k) × Counted t c x)
+
+-- An end with no step left to take.
+abbrev pub Rests : End → Type 0
+Rests E = (E ≡ at-value) ⊎ (E ≡ at-stuck)
+
+-- A run that stopped by `s` and left `c`, if it came to rest, leaves the same with any grant of its steps or more.
+abbrev pub SameAgain : List ℕ → List ℕ → List ℕ → Ran → Stop → Type 0
+SameAgain ws W S c s = (budget allowance : ℕ) → Rests (s .end) → s .steps ≤ min budget allowance
+    → run ws budget allowance W S ≡ record { answer = ok s; allowance = allowance - s .steps; work = c .work; state = c .state }
+
+-- Document 02, 2.2: "a budget of exactly the needed steps" is enough.
+abbrev pub EnoughSteps : Type 0
+EnoughSteps = (ws : List ℕ) (budget allowance : ℕ) (W S : List ℕ) (s : Stop)
+    → run ws budget allowance W S .answer ≡ ok s → SameAgain ws W S (run ws budget allowance W S) s
 
 -- "A check refuses by 1–16, a run by 2–9."
 abbrev pub RunRefusals : Type 0

@@ -94,10 +94,12 @@ starred =
     -- every kind of step, so many times that no count is another's: a cancelled cast and two unfoldings under S_APP, a substitution,
     -- and a cancelled cast under S_CASTDOWN and one alone
     ∷ ends (2 ∷ 1 ∷ 3 ∷ 0 ∷ 6 ∷ 0 ∷ 6 ∷ 0 ∷ 4 ∷ 0 ∷ 1 ∷ 1 ∷ 3 ∷ 0 ∷ 3 ∷ 0 ∷ 0 ∷ 0 ∷ []) 1000 at-value 6 (counts 1 2 3) (0 ∷ [])
-    -- ends with the grant used (document 02, 2.2): "`0` with budget 0 is now end 1"; the stuck term; and a value after the last step
+    -- ends with the grant used (document 02, 2.2): "`0` with budget 0 is now end 1"; the stuck term; a value after the
+    -- last step; and spent where the next state would be over 1,024 words
     ∷ ends (0 ∷ []) 0 at-value 0 (counts 0 0 0) (0 ∷ [])
     ∷ ends (2 ∷ 0 ∷ 0 ∷ []) 0 at-stuck 0 (counts 0 0 0) (2 ∷ 0 ∷ 0 ∷ [])
     ∷ ends (1 ∷ 3 ∷ 2 ∷ 4 ∷ 0 ∷ 16 ∷ 0 ∷ 0 ∷ []) 1 at-value 1 (counts 0 0 1) (0 ∷ [])
+    ∷ ends (2 ∷ 4 ∷ 0 ∷ 6 ∷ 0 ∷ self-applied ++ 0 ∷ []) 1 spent 1 (counts 1 0 0) (6 ∷ 0 ∷ self-applied)
     ∷ []
 
 -- Every row of the table holds.
