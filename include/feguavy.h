@@ -14,10 +14,10 @@
 extern "C" {
 #endif
 
-#define FEGUAVY_VERSION_MAJOR 2
-#define FEGUAVY_VERSION_MINOR 1
+#define FEGUAVY_VERSION_MAJOR 3
+#define FEGUAVY_VERSION_MINOR 0
 #define FEGUAVY_VERSION_PATCH 0
-#define FEGUAVY_VERSION "2.1.0"
+#define FEGUAVY_VERSION "3.0.0"
 
 /* The largest limit, the longest term or state, and the working words of a run. */
 #define FEGUAVY_LARGEST_LIMIT 1024
@@ -25,8 +25,10 @@ extern "C" {
 #define FEGUAVY_RUN_WORK 4096
 /* The working words of a check at the limit L. */
 #define FEGUAVY_CHECK_WORK(L) (512 * (size_t)(L))
+/* How many callers the desk has: 0 to 7. */
+#define FEGUAVY_CALLERS 8
 
-/* Refusals, by document 01's numbers. */
+/* Refusals, by the numbers of documents 01 and 02. */
 enum feguavy_refusal {
     FEGUAVY_LIMIT_NOT_ALLOWED = 1,   /* the limit is 0 or above 1,024 */
     FEGUAVY_WORK_SHORT = 2,          /* the working slice is too short */
@@ -43,7 +45,8 @@ enum feguavy_refusal {
     FEGUAVY_NO_STEP = 13,            /* a cast whose type does not step */
     FEGUAVY_WRONG_CAST = 14,         /* an up cast whose stepped annotation is not its body's type */
     FEGUAVY_WRONG_RECURSION = 15,    /* a recursion whose body has another type than its annotation */
-    FEGUAVY_OVER_LIMIT = 16          /* a type longer than the limit */
+    FEGUAVY_OVER_LIMIT = 16,         /* a type longer than the limit */
+    FEGUAVY_CALLER_NOT_ALLOWED = 21  /* the caller of a run is above 7 */
 };
 
 /* Ends of a run, by document 01's numbers. They are tested in the order value, stuck, spent, long (document 02, 2.2), so that a value
@@ -60,12 +63,19 @@ typedef struct {
     uint32_t answer, place, length;
 } feguavy_checked;
 
+/* The desk: an allowance of steps for each caller. It goes into a run by value and comes back in its result, for the next run. */
+typedef struct {
+    uint32_t allowances[FEGUAVY_CALLERS];
+} feguavy_desk;
+
 /* answer: 0 where the run ended, else the refusal; place: of the refusal; end, steps: how it ended, and the steps that it took;
  * substitutions, unfoldings, cancellations: how many of the steps were by S_BETA, S_MU and S_CASTDOWNUP (a cancelled cast), whatever
- * S_APP and S_CASTDOWN surround them, so that the three add up to steps; allowance: what is left. Where the run is refused, end, steps
- * and the three counts are 0. */
+ * S_APP and S_CASTDOWN surround them, so that the three add up to steps; desk: the desk given, with the steps taken from the allowance
+ * of the caller, and the other seven as they were. Where the run is refused, end, steps and the three counts are 0, and the desk is
+ * the one given. */
 typedef struct {
-    uint32_t answer, place, end, steps, substitutions, unfoldings, cancellations, allowance;
+    uint32_t answer, place, end, steps, substitutions, unfoldings, cancellations;
+    feguavy_desk desk;
 } feguavy_ran;
 
 /* The part's first word and its number of words: 0, 0 where there is none. */
@@ -79,11 +89,11 @@ typedef struct {
 feguavy_checked feguavy_check(const uint16_t *term, size_t term_len, uint32_t limit, uint16_t *work, size_t work_len,
                               uint16_t *output, size_t output_len);
 
-/* Steps a closed term, accepted or not, at most budget and at most allowance times. The state reached stands at the front of the
- * state slice (it is self-delimiting), the rest unchanged; the first 4,096 words of the working slice are then 0, the rest
- * unchanged. A refused run changes nothing. */
+/* Steps a closed term, accepted or not, at most budget times and at most as often as the caller's allowance on the desk says. The
+ * state reached stands at the front of the state slice (it is self-delimiting), the rest unchanged; the first 4,096 words of the
+ * working slice are then 0, the rest unchanged. A refused run changes nothing; a caller above 7 is refused before all else. */
 feguavy_ran feguavy_run(const uint16_t *term, size_t term_len, uint32_t budget, uint16_t *work, size_t work_len, uint16_t *state,
-                        size_t state_len, uint32_t allowance);
+                        size_t state_len, uint32_t caller, feguavy_desk desk);
 
 /* The first or second part of a closed term, as a place in the caller's own words. */
 feguavy_found feguavy_part(const uint16_t *term, size_t term_len, uint32_t number);
@@ -120,6 +130,7 @@ static inline const char *feguavy_refusal_text(uint32_t refusal) {
     case FEGUAVY_WRONG_CAST: return "an up cast whose stepped annotation is not its body's type";
     case FEGUAVY_WRONG_RECURSION: return "a recursion whose body has another type than its annotation";
     case FEGUAVY_OVER_LIMIT: return "a type longer than the limit";
+    case FEGUAVY_CALLER_NOT_ALLOWED: return "a caller above 7";
     default: return "no refusal";
     }
 }

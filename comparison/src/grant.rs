@@ -1,6 +1,6 @@
 //! The grant of a run beside the steps that the run needs: there the order of its ends shows (document 02, 2.2).
 
-use crate::request::{Call, Request};
+use crate::request::Request;
 use crate::side::RULES;
 use reference::read::Names;
 use reference::run::{run_with, End, Rules};
@@ -23,8 +23,7 @@ pub const BELOW: &str = "granted one step less, ended";
 
 /// The kind of a run that ended: `AT`, `BELOW` or another.
 pub fn ended(request: &Request) -> &'static str {
-    let Call::Run { budget, allowance, .. } = request.call else { return "ended" };
-    let grant = budget.min(allowance);
+    let Some(grant) = request.call.grant() else { return "ended" };
     match needed(&request.term) {
         Some(steps) if steps == grant => AT,
         Some(steps) if steps.checked_sub(1) == Some(grant) => BELOW,

@@ -1,5 +1,6 @@
 //! Requests of the line protocol that both sides answer, from the reference's generator.
 
+use feguavy::Desk;
 use reference::gen::Gen;
 
 /// What is asked of a term.
@@ -8,10 +9,11 @@ pub enum Call {
     Check {
         limit: u32,
     },
-    /// `kinds` says whether the line asks for the steps by kind too; the call is the same.
+    /// `kinds` says whether the line asks for the steps by kind too; the call is the same. A line is of caller 0, alone at the desk.
     Run {
         budget: u32,
-        allowance: u32,
+        caller: u32,
+        desk: Desk,
         kinds: bool,
     },
     Part {
@@ -31,6 +33,17 @@ impl Call {
             Call::Part { .. } => "part",
         }
     }
+
+    /// The steps granted to a run: none where its caller has no allowance. A call that is no run has no grant.
+    pub fn grant(&self) -> Option<u32> {
+        match *self {
+            Call::Run { budget, caller, desk, .. } => {
+                let allowance = desk.allowances.get(caller as usize).copied();
+                Some(budget.min(allowance.unwrap_or(0)))
+            }
+            _ => None,
+        }
+    }
 }
 
 #[derive(Clone, Debug)]
@@ -48,18 +61,23 @@ impl Request {
         let numbers: Vec<u32> = fields.map(|n| n.parse().ok()).collect::<Option<_>>()?;
         let call = match (verb, &numbers[..]) {
             ("check", &[limit]) => Call::Check { limit },
-            ("run" | "kinds", &[budget, allowance]) => Call::Run { budget, allowance, kinds: verb == "kinds" },
+            ("run" | "kinds", &[budget, allowance]) => {
+                Call::Run { budget, caller: 0, desk: Desk::alone(allowance), kinds: verb == "kinds" }
+            }
             ("part", &[number]) => Call::Part { number },
             _ => return None,
         };
         Some(Request { call, term: words.split_whitespace().map(|w| w.parse().ok()).collect::<Option<_>>()? })
     }
 
-    /// The line of a request.
+    /// The line of a request, of a run as if its caller were alone at the desk.
     pub fn line(&self) -> String {
         let numbers = match self.call {
             Call::Check { limit } => format!("{limit}"),
-            Call::Run { budget, allowance, .. } => format!("{budget} {allowance}"),
+            Call::Run { budget, caller, desk, .. } => {
+                let allowance = desk.allowances.get(caller as usize).copied();
+                format!("{budget} {}", allowance.unwrap_or(0))
+            }
             Call::Part { number } => format!("{number}"),
         };
         let words: String = self.term.iter().map(|w| format!(" {w}")).collect();

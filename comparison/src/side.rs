@@ -1,11 +1,11 @@
 //! The calls of both sides in one shape.
 
 use crate::request::Call;
-use feguavy::Checked;
+use feguavy::{Checked, Desk};
 use reference::check::Answer as Verdict;
 use reference::proto::Options;
 use reference::read::Names;
-use reference::run::{run_with, Rules, FIRST};
+use reference::run::{run_for, Rules, FIRST};
 use reference::step::PLAIN;
 
 /// The reference under the options of what has landed of document 02: the ends of 2.2. It takes each step of a run.
@@ -14,29 +14,36 @@ pub const LANDED: Options = Options { new_ends: true, under_up: false, names: fa
 /// The same for a call.
 pub const RULES: Rules = Rules { new_ends: LANDED.new_ends, leap: !LANDED.no_leap, ..FIRST };
 
-/// What a call answers, by document 01's numbers.
+/// What a call answers, by the numbers of documents 01 and 02; of a refused check there is no `ran`.
 #[derive(Clone, Copy, Debug, PartialEq)]
 pub enum Answer {
     Typed { length: usize },
-    Refused { reason: u32, place: usize, ran: Ran },
+    Refused { reason: u32, place: usize, ran: Option<Ran> },
     Ended(Ran),
     Part { start: usize, length: usize },
 }
 
-/// The other numbers of a run, of which a refused one has the allowance alone; a check has none, which is 0 here.
-#[derive(Clone, Copy, Debug, Default, PartialEq)]
+/// The other numbers of a run, of which a refused one has the desk alone.
+#[derive(Clone, Copy, Debug, PartialEq)]
 pub struct Ran {
     pub end: u32,
     pub steps: u32,
     pub substitutions: u32,
     pub unfoldings: u32,
     pub cancellations: u32,
-    /// The allowance left.
-    pub left: u32,
+    /// The desk afterwards.
+    pub desk: Desk,
+}
+
+impl Ran {
+    /// Of a run that is refused at that desk.
+    fn none(desk: Desk) -> Ran {
+        Ran { end: 0, steps: 0, substitutions: 0, unfoldings: 0, cancellations: 0, desk }
+    }
 }
 
 impl Answer {
-    /// What kind of answer it is: a name and document 01's number, or 0.
+    /// What kind of answer it is: a name and its number, or 0.
     pub fn kind(&self) -> (&'static str, u32) {
         match *self {
             Answer::Typed { .. } => ("typed", 0),
@@ -68,21 +75,21 @@ pub fn proved(call: Call, term: &[u16], work: &mut [u16], result: &mut [u16]) ->
     match call {
         Call::Check { limit } => match feguavy::check(term, limit, work, result) {
             Checked::Typed(length) => Answer::Typed { length },
-            Checked::Refused(r) => Answer::Refused { reason: r.reason.number(), place: r.place, ran: Ran::default() },
+            Checked::Refused(r) => Answer::Refused { reason: r.reason.number(), place: r.place, ran: None },
         },
-        Call::Run { budget, allowance, .. } => {
-            let r = feguavy::raw::run(term, budget, work, result, allowance);
+        Call::Run { budget, caller, desk, .. } => {
+            let r = feguavy::raw::run(term, budget, work, result, caller, desk);
             let ran = Ran {
                 end: r.end,
                 steps: r.steps,
                 substitutions: r.substitutions,
                 unfoldings: r.unfoldings,
                 cancellations: r.cancellations,
-                left: r.allowance,
+                desk: r.desk,
             };
             match r.answer {
                 0 => Answer::Ended(ran),
-                reason => Answer::Refused { reason, place: r.place as usize, ran },
+                reason => Answer::Refused { reason, place: r.place as usize, ran: Some(ran) },
             }
         }
         Call::Part { number } => {
@@ -94,27 +101,26 @@ pub fn proved(call: Call, term: &[u16], work: &mut [u16], result: &mut [u16]) ->
 
 /// The reference.
 pub fn reference(call: Call, term: &[u16], work: &mut [u16], result: &mut [u16]) -> Answer {
-    let refused = |r: reference::read::Refusal, left| Answer::Refused {
-        reason: r.reason as u32,
-        place: r.place as usize,
-        ran: Ran { left, ..Ran::default() },
+    let refused = |r: reference::read::Refusal, desk: Option<Desk>| {
+        let (reason, place) = (r.reason as u32, r.place as usize);
+        Answer::Refused { reason, place, ran: desk.map(Ran::none) }
     };
     match call {
         Call::Check { limit } => match reference::check::check(term, limit, work, result) {
             Verdict::Typed(length) => Answer::Typed { length },
-            Verdict::Refused(r) => refused(r, 0),
+            Verdict::Refused(r) => refused(r, None),
         },
-        Call::Run { budget, allowance, .. } => {
-            match run_with(term, budget, work, result, allowance, &PLAIN, Names::Meaningless, RULES) {
-                Ok(r) => Answer::Ended(Ran {
+        Call::Run { budget, caller, desk, .. } => {
+            match run_for(term, budget, caller, work, result, desk.allowances, &PLAIN, Names::Meaningless, RULES) {
+                Ok((r, allowances)) => Answer::Ended(Ran {
                     end: r.end as u32,
                     steps: r.steps,
                     substitutions: r.counts.beta,
                     unfoldings: r.counts.mu,
                     cancellations: r.counts.cancel,
-                    left: r.left,
+                    desk: Desk { allowances },
                 }),
-                Err(r) => refused(r, allowance),
+                Err(r) => refused(r, Some(desk)),
             }
         }
         Call::Part { number } => match reference::read::part(term, number) {

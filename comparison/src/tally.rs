@@ -2,30 +2,39 @@
 
 use crate::grant;
 use crate::request::{Call, Request};
+use feguavy::CALLERS;
 use std::collections::BTreeMap;
 use std::fmt;
 use std::process::ExitCode;
 
 #[derive(Default)]
-pub struct Tally(BTreeMap<(&'static str, &'static str, u32), usize>);
+pub struct Tally {
+    /// By verb, kind of answer and number.
+    kinds: BTreeMap<(&'static str, &'static str, u32), usize>,
+    /// Runs by caller, those above 7 last.
+    callers: [usize; CALLERS + 1],
+}
 
 impl Tally {
     /// One more request, answered by that kind and number (0 where the kind has none). Runs that ended are told apart by their grants.
     pub fn add(&mut self, request: &Request, (kind, number): (&'static str, u32)) {
         let kind = if kind == "ended" { grant::ended(request) } else { kind };
-        *self.0.entry((request.call.verb(), kind, number)).or_default() += 1;
+        *self.kinds.entry((request.call.verb(), kind, number)).or_default() += 1;
+        if let Call::Run { caller, .. } = request.call {
+            self.callers[CALLERS.min(caller as usize)] += 1;
+        }
     }
 
     pub fn of_verb(&self, verb: &str) -> usize {
-        self.0.iter().filter(|(key, _)| key.0 == verb).map(|(_, count)| count).sum()
+        self.kinds.iter().filter(|(key, _)| key.0 == verb).map(|(_, count)| count).sum()
     }
 
     pub fn of_kind(&self, kind: &str) -> usize {
-        self.0.iter().filter(|(key, _)| key.1 == kind).map(|(_, count)| count).sum()
+        self.kinds.iter().filter(|(key, _)| key.1 == kind).map(|(_, count)| count).sum()
     }
 
     pub fn total(&self) -> usize {
-        self.0.values().sum()
+        self.kinds.values().sum()
     }
 
     /// An error where fewer than `count` were compared, or none of some verb, or no run granted just what it needs, or one step less:
@@ -42,14 +51,22 @@ impl Tally {
             None => Ok(self),
         }
     }
+
+    /// An error where some caller made no run, or no run was made by a caller that the desk does not have.
+    pub fn of_every_caller(self) -> Result<Tally, String> {
+        match self.callers.iter().position(|&count| count == 0) {
+            Some(caller) => Err(format!("no run of caller {caller}")),
+            None => Ok(self),
+        }
+    }
 }
 
-/// A line for each verb, and one for the grants at which the order of the ends shows.
+/// A line for each verb, one for the grants at which the order of the ends shows, and one for the callers.
 impl fmt::Display for Tally {
     fn fmt(&self, f: &mut fmt::Formatter) -> fmt::Result {
         for verb in Call::VERBS {
             write!(f, "{verb} {}:", self.of_verb(verb))?;
-            for (&(_, kind, number), count) in self.0.iter().filter(|(key, _)| key.0 == verb) {
+            for (&(_, kind, number), count) in self.kinds.iter().filter(|(key, _)| key.0 == verb) {
                 match number {
                     0 => write!(f, " {kind} {count};")?,
                     _ => write!(f, " {kind} {number}: {count};")?,
@@ -57,7 +74,9 @@ impl fmt::Display for Tally {
             }
             writeln!(f)?;
         }
-        writeln!(f, "runs granted the steps needed: {}; one step less: {}", self.of_kind(grant::AT), self.of_kind(grant::BELOW))
+        writeln!(f, "runs granted the steps needed: {}; one step less: {}", self.of_kind(grant::AT), self.of_kind(grant::BELOW))?;
+        let own: Vec<String> = self.callers[..CALLERS].iter().map(usize::to_string).collect();
+        writeln!(f, "runs by caller, 0 to 7: {}; above 7: {}", own.join(" "), self.callers[CALLERS])
     }
 }
 
@@ -105,16 +124,35 @@ mod tests {
                 tally.add(&Request::of(line).unwrap(), ("ended", 1));
             }
             assert_eq!(tally.of_kind(kind), 1);
-            tally.0.retain(|key, _| key.1 != kind);
+            tally.kinds.retain(|key, _| key.1 != kind);
             assert!(tally.covering(2).is_err());
         }
+    }
+
+    #[test]
+    fn a_caller_left_out_is_an_error() {
+        let run = |caller| {
+            let mut request = Request::of("run 1 9 | 6 0 0").unwrap();
+            if let Call::Run { caller: of, .. } = &mut request.call {
+                *of = caller;
+            }
+            request
+        };
+        let of = |callers: &[u32]| {
+            let mut tally = Tally::default();
+            callers.iter().for_each(|&caller| tally.add(&run(caller), ("ended", 1)));
+            tally.of_every_caller()
+        };
+        assert!(of(&[0, 1, 2, 3, 4, 5, 6, 7, u32::MAX]).is_ok());
+        assert!(of(&[0, 1, 2, 3, 4, 5, 6, 7]).is_err());
+        assert!(of(&[0, 1, 2, 3, 4, 6, 7, 8]).is_err());
     }
 
     #[test]
     fn a_verb_left_out_is_an_error() {
         for verb in Call::VERBS {
             let mut tally = one_of_each();
-            tally.0.retain(|key, _| key.0 != verb);
+            tally.kinds.retain(|key, _| key.0 != verb);
             assert!(tally.covering(2).is_err());
         }
     }

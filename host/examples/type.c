@@ -49,7 +49,9 @@ int main(int argc, char **argv) {
         return 1;
     }
     print_words("type:", output, checked.length);
-    feguavy_ran ran = feguavy_run(term, count, BUDGET, work, FEGUAVY_CHECK_WORK(LIMIT), state, FEGUAVY_LONGEST, BUDGET);
+    /* caller 0 has what the budget asks for, and the other seven callers have nothing */
+    const feguavy_desk desk = {{BUDGET, 0, 0, 0, 0, 0, 0, 0}};
+    feguavy_ran ran = feguavy_run(term, count, BUDGET, work, FEGUAVY_CHECK_WORK(LIMIT), state, FEGUAVY_LONGEST, 0, desk);
     printf("run: ended %s, steps: %u, substitutions: %u, unfoldings: %u, cancelled casts: %u\n", feguavy_end_text(ran.end), ran.steps,
            ran.substitutions, ran.unfoldings, ran.cancellations);
     print_words("state:", state, feguavy_length(state, FEGUAVY_LONGEST));

@@ -1,9 +1,9 @@
-//! What the calls answer, with document 01's numbers.
+//! What the calls answer, with the numbers of documents 01 and 02.
 
-use crate::Kind;
+use crate::{Desk, Kind};
 use std::fmt;
 
-/// Why a call is refused, in the order of document 01's numbers.
+/// Why a call is refused, in the order of the numbers.
 ///
 /// ```
 /// use feguavy::Reason;
@@ -46,11 +46,13 @@ pub enum Reason {
     WrongRecursion,
     /// 16: a measured type longer than the limit.
     OverLimit,
+    /// 21: the caller of a run is above 7 (document 02, 2.9).
+    CallerNotAllowed = 21,
 }
 
 impl Reason {
     /// Every reason, in the order of the numbers.
-    pub const ALL: [Reason; 16] = [
+    pub const ALL: [Reason; 17] = [
         Reason::LimitNotAllowed,
         Reason::WorkShort,
         Reason::OutputShort,
@@ -67,16 +69,17 @@ impl Reason {
         Reason::WrongCast,
         Reason::WrongRecursion,
         Reason::OverLimit,
+        Reason::CallerNotAllowed,
     ];
 
-    /// Document 01's number.
+    /// Its number.
     pub fn number(self) -> u32 {
         self as u32
     }
 
-    /// Whether the refusal is about one place of the list: 1 to 4 are not, and their place is 0.
+    /// Whether the refusal is about one place of the list: 1 to 4 and 21 are not, and their place is 0.
     pub fn has_place(self) -> bool {
-        self.number() > 4
+        !matches!(self.number(), 1..=4 | 21)
     }
 
     fn text(self) -> &'static str {
@@ -97,11 +100,12 @@ impl Reason {
             Reason::WrongCast => "an up cast whose stepped annotation is not its body's type",
             Reason::WrongRecursion => "a recursion whose body has another type than its annotation",
             Reason::OverLimit => "a type longer than the limit",
+            Reason::CallerNotAllowed => "a caller above 7",
         }
     }
 }
 
-/// A number that document 01 gives to no reason, or to no end.
+/// A number that is no reason's, or no end's.
 #[derive(Clone, Copy, Debug, PartialEq, Eq, Hash)]
 pub struct UnknownNumber(pub u32);
 
@@ -140,7 +144,7 @@ impl fmt::Display for Reason {
 pub struct Refusal {
     /// Why.
     pub reason: Reason,
-    /// The place that document 01 names for the reason: words are counted from 0. It is 0 where [`Reason::has_place`] is false.
+    /// The place that docs/FORMAT.md names for the reason: words are counted from 0. It is 0 where [`Reason::has_place`] is false.
     pub place: usize,
 }
 
@@ -282,19 +286,19 @@ fn counted(count: u32, word: &str) -> String {
     format!("{count} {word}{}", if count == 1 { "" } else { "s" })
 }
 
-/// The answer of a run, and the allowance left on the desk.
+/// The answer of a run, and the desk after it.
 #[derive(Clone, Copy, Debug, PartialEq, Eq, Hash)]
 pub struct Ran {
     /// How it ended, or why it was refused.
     pub answer: Result<Ended, Refusal>,
-    /// The allowance given, less the steps taken.
-    pub allowance: u32,
+    /// The desk given, with the steps taken from the allowance of the caller: the one for the next run.
+    pub desk: Desk,
 }
 
 impl fmt::Display for Ran {
     fn fmt(&self, f: &mut fmt::Formatter) -> fmt::Result {
         match self.answer {
-            Ok(ended) => write!(f, "{ended}, {} left", self.allowance),
+            Ok(ended) => write!(f, "{ended}"),
             Err(refusal) => write!(f, "refused: {refusal}"),
         }
     }

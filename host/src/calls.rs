@@ -1,7 +1,7 @@
 //! The calls of the archive with lent slices, and buffers of the right lengths for them.
 
 use crate::raw;
-use crate::{Checked, End, Ended, Ran, Refusal};
+use crate::{Caller, Checked, Desk, End, Ended, Ran, Refusal};
 
 /// The largest limit of a check.
 pub const LARGEST_LIMIT: u32 = 1024;
@@ -35,21 +35,26 @@ pub fn check(term: &[u16], limit: u32, work: &mut [u16], output: &mut [u16]) -> 
     }
 }
 
-/// Steps a closed term, at most `budget` and at most `allowance` times: the first words of `state` are the state reached.
+/// Steps a closed term for a caller of the desk, at most `budget` times and at most as often as its allowance says: the first words of
+/// `state` are the state reached.
 ///
 /// ```
-/// use feguavy::{run, End, Ended, RUN_WORK, LONGEST};
+/// use feguavy::{run, Caller, Desk, End, Ended, RUN_WORK, LONGEST};
 /// let (mut work, mut state) = (vec![0; RUN_WORK], vec![9; LONGEST]);
-/// let ran = run(&[1, 3, 2, 4, 0, 16, 0, 0], 1000, &mut work, &mut state, 1000);
+/// let desk = Desk { allowances: [10, 20, 30, 40, 50, 60, 70, 80] };
+/// let third = Caller::try_from(2).unwrap();
+/// let ran = run(&[1, 3, 2, 4, 0, 16, 0, 0], 1000, &mut work, &mut state, third, desk);
 /// let ended = ran.answer.unwrap();
 /// assert_eq!(ended, Ended { end: End::Value, steps: 1, substitutions: 0, unfoldings: 0, cancellations: 1 });
 /// assert_eq!(ended.to_string(), "ended at a value after 1 step (1 cancelled cast)");
-/// assert_eq!((state[0], state[1], ran.allowance), (0, 9, 999));
+/// assert_eq!((state[0], state[1]), (0, 9));
+/// // the step is taken from the caller's own allowance
+/// assert_eq!(ran.desk.allowances, [10, 20, 29, 40, 50, 60, 70, 80]);
 /// // a budget of just the steps needed will do
-/// assert_eq!(run(&[1, 3, 2, 4, 0, 16, 0, 0], 1, &mut work, &mut state, 1000), ran);
+/// assert_eq!(run(&[1, 3, 2, 4, 0, 16, 0, 0], 1, &mut work, &mut state, third, desk), ran);
 /// ```
-pub fn run(term: &[u16], budget: u32, work: &mut [u16], state: &mut [u16], allowance: u32) -> Ran {
-    let r = raw::run(term, budget, work, state, allowance);
+pub fn run(term: &[u16], budget: u32, work: &mut [u16], state: &mut [u16], caller: Caller, desk: Desk) -> Ran {
+    let r = raw::run(term, budget, work, state, caller.number(), desk);
     let answer = match r.answer {
         0 => Ok(Ended {
             end: End::try_from(r.end).expect("an end's number"),
@@ -60,7 +65,7 @@ pub fn run(term: &[u16], budget: u32, work: &mut [u16], state: &mut [u16], allow
         }),
         number => Err(Refusal::of(number, r.place)),
     };
-    Ran { answer, allowance: r.allowance }
+    Ran { answer, desk: r.desk }
 }
 
 /// The first or second part of a closed term, of the caller's own words; empty where there is none.
@@ -93,10 +98,13 @@ pub fn length(words: &[u16]) -> usize {
 /// Slices of the right lengths for checks at one limit and for runs.
 ///
 /// ```
-/// let mut buffers = feguavy::Buffers::for_limit(32);
-/// let (ran, state) = buffers.run(&[6, 0, 16], 10, 100);
-/// assert_eq!(ran.to_string(), "ended with every step granted taken after 10 steps (10 unfoldings), 90 left");
+/// use feguavy::{Buffers, Caller, Desk};
+/// let mut buffers = Buffers::for_limit(32);
+/// let (ran, state) = buffers.run(&[6, 0, 16], 10, Caller::FIRST, Desk::alone(100));
+/// assert_eq!(ran.to_string(), "ended with every step granted taken after 10 steps (10 unfoldings)");
 /// assert_eq!(state, [6, 0, 16]);
+/// // the next run finds the desk that this one left
+/// assert_eq!(ran.desk, Desk::alone(90));
 /// ```
 #[derive(Clone, Debug)]
 pub struct Buffers {
@@ -120,9 +128,9 @@ impl Buffers {
         }
     }
 
-    /// A run, with the state that it reached: none where it is refused.
-    pub fn run(&mut self, term: &[u16], budget: u32, allowance: u32) -> (Ran, &[u16]) {
-        let ran = run(term, budget, &mut self.work, &mut self.result, allowance);
+    /// A run for a caller of the desk, with the state that it reached: none where it is refused.
+    pub fn run(&mut self, term: &[u16], budget: u32, caller: Caller, desk: Desk) -> (Ran, &[u16]) {
+        let ran = run(term, budget, &mut self.work, &mut self.result, caller, desk);
         let count = if ran.answer.is_ok() { length(&self.result) } else { 0 };
         (ran, &self.result[..count])
     }

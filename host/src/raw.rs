@@ -1,5 +1,7 @@
 //! The functions of the archive, as include/feguavy.h declares them. They have no `requires`: any slices and numbers will do.
 
+use crate::Desk;
+
 #[derive(Debug)]
 #[repr(C)]
 pub struct CheckedNumbers {
@@ -18,7 +20,7 @@ pub struct RanNumbers {
     pub substitutions: u32,
     pub unfoldings: u32,
     pub cancellations: u32,
-    pub allowance: u32,
+    pub desk: Desk,
 }
 
 #[derive(Debug)]
@@ -46,7 +48,8 @@ extern "C" {
         work_len: usize,
         state: *mut u16,
         state_len: usize,
-        allowance: u32,
+        caller: u32,
+        desk: Desk,
     ) -> RanNumbers;
     fn feguavy_part(term: *const u16, term_len: usize, number: u32) -> FoundNumbers;
 }
@@ -57,9 +60,10 @@ pub fn check(term: &[u16], limit: u32, work: &mut [u16], output: &mut [u16]) -> 
     unsafe { feguavy_check(term.as_ptr(), term.len(), limit, work.as_mut_ptr(), work.len(), output.as_mut_ptr(), output.len()) }
 }
 
-pub fn run(term: &[u16], budget: u32, work: &mut [u16], state: &mut [u16], allowance: u32) -> RanNumbers {
+pub fn run(term: &[u16], budget: u32, work: &mut [u16], state: &mut [u16], caller: u32, desk: Desk) -> RanNumbers {
+    let (work_len, state_len) = (work.len(), state.len());
     unsafe {
-        feguavy_run(term.as_ptr(), term.len(), budget, work.as_mut_ptr(), work.len(), state.as_mut_ptr(), state.len(), allowance)
+        feguavy_run(term.as_ptr(), term.len(), budget, work.as_mut_ptr(), work_len, state.as_mut_ptr(), state_len, caller, desk)
     }
 }
 

@@ -12,7 +12,7 @@ const TEXTS: &str = r#"
 #include <stdio.h>
 int main(void) {
     const uint16_t words[7] = {2, 4, 0, 16, 0, 7, 7};
-    const enum feguavy_refusal last = FEGUAVY_OVER_LIMIT;
+    const enum feguavy_refusal last = FEGUAVY_CALLER_NOT_ALLOWED;
     const enum feguavy_end fourth = FEGUAVY_LONG;
     for (uint32_t n = 0; n <= (uint32_t)last + 1; n++) printf("%s\n", feguavy_refusal_text(n));
     for (uint32_t n = 0; n <= (uint32_t)fourth + 1; n++) printf("%s\n", feguavy_end_text(n));
@@ -30,21 +30,28 @@ int main(void) {
 "#;
 
 /// Prints every number of a run of three cancelled casts, two unfoldings and one substitution, with budgets of 5, of 6 and of 1,000,
-/// and of a run that is refused; the desk holds 100.
+/// each by another caller and given the desk that the one before returned, and of runs that are refused: by their words, and by their
+/// caller.
 const RUNS: &str = r#"
 #include <feguavy.h>
 #include <stdio.h>
 static uint16_t work[FEGUAVY_RUN_WORK], state[FEGUAVY_LONGEST];
-static void print_run(const uint16_t *term, size_t count, uint32_t budget) {
-    const feguavy_ran r = feguavy_run(term, count, budget, work, FEGUAVY_RUN_WORK, state, FEGUAVY_LONGEST, 100);
-    printf("%u %u %u %u %u %u %u %u\n", r.answer, r.place, r.end, r.steps, r.substitutions, r.unfoldings, r.cancellations, r.allowance);
+static feguavy_desk desk = {{100, 200, 300, 400, 500, 600, 700, 4294967295u}};
+static void print_run(const uint16_t *term, size_t count, uint32_t budget, uint32_t caller) {
+    const feguavy_ran r = feguavy_run(term, count, budget, work, FEGUAVY_RUN_WORK, state, FEGUAVY_LONGEST, caller, desk);
+    printf("%u %u %u %u %u %u %u |", r.answer, r.place, r.end, r.steps, r.substitutions, r.unfoldings, r.cancellations);
+    for (int i = 0; i < FEGUAVY_CALLERS; i++) printf(" %u", r.desk.allowances[i]);
+    printf("\n");
+    desk = r.desk;
 }
 int main(void) {
     const uint16_t mixed[18] = {1, 3, 0, 1, 3, 0, 1, 3, 0, 6, 0, 6, 0, 2, 4, 0, 16, 0}, unbound[3] = {4, 0, 17};
-    print_run(mixed, 18, 5);
-    print_run(mixed, 18, 6);
-    print_run(mixed, 18, 1000);
-    print_run(unbound, 3, 1000);
+    print_run(mixed, 18, 5, 0);
+    print_run(mixed, 18, 6, 7);
+    print_run(mixed, 18, 1000, 3);
+    print_run(unbound, 3, 1000, 3);
+    print_run(mixed, 18, 1000, 8);
+    print_run(mixed, 18, 1000, 4294967295u);
     return 0;
 }
 "#;
@@ -89,10 +96,10 @@ fn texts_and_lengths() {
     let folder = installed("texts");
     let source = folder.join("texts.c");
     write(&source, TEXTS).unwrap();
-    let reasons = Reason::ALL.iter().map(|reason| reason.to_string());
+    let refusal = |number| Reason::try_from(number).map_or("no refusal".to_string(), |reason| reason.to_string());
     let ends = [End::Value, End::Spent, End::Stuck, End::Long].iter().map(|end| end.to_string());
     let none = |text: &str| std::iter::once(text.to_string());
-    let mut expected: Vec<String> = none("no refusal").chain(reasons).chain(none("no refusal")).collect();
+    let mut expected: Vec<String> = (0..=Reason::CallerNotAllowed.number() + 1).map(refusal).collect();
     expected.extend(none("no end").chain(ends).chain(none("no end")));
     expected.push("0 1 2 3 4 5 5 5 1 2 3 3 3 3 3 0".to_string());
     expected.push(format!("{0} {0}", env!("CARGO_PKG_VERSION")));
@@ -110,7 +117,15 @@ fn numbers_of_runs() {
     write(&source, RUNS).unwrap();
     for (compiler, language) in LANGUAGES {
         let lines = said(&mut Command::new(build(&folder, compiler, language, &source)));
-        assert_eq!(lines, "0 0 2 5 0 2 3 95\n0 0 1 6 1 2 3 94\n0 0 1 6 1 2 3 94\n9 2 0 0 0 0 0 100\n", "{compiler}");
+        let expected = [
+            "0 0 2 5 0 2 3 | 95 200 300 400 500 600 700 4294967295",
+            "0 0 1 6 1 2 3 | 95 200 300 400 500 600 700 4294967289",
+            "0 0 1 6 1 2 3 | 95 200 300 394 500 600 700 4294967289",
+            "9 2 0 0 0 0 0 | 95 200 300 394 500 600 700 4294967289",
+            "21 0 0 0 0 0 0 | 95 200 300 394 500 600 700 4294967289",
+            "21 0 0 0 0 0 0 | 95 200 300 394 500 600 700 4294967289",
+        ];
+        assert_eq!(lines.lines().collect::<Vec<_>>(), expected, "{compiler}");
     }
     remove_dir_all(&folder).unwrap();
 }

@@ -1,6 +1,6 @@
 //! The command `feguavy`: what it prints, its lines of JSON, its exit status, and what it says where something fails.
 
-use feguavy::{bytes_from_words, show, Buffers, Style};
+use feguavy::{bytes_from_words, show, Buffers, Caller, Desk, Style};
 use std::io::{Read, Write};
 use std::path::PathBuf;
 use std::process::{Command, Output, Stdio};
@@ -126,7 +126,7 @@ fn traces_as(words: &str, budget: u32, rules: &[&str], last: &str) {
     assert_eq!(lines.pop(), Some(last));
     let mut buffers = Buffers::for_limit(1);
     for (step, line) in lines.iter().enumerate() {
-        let (ran, state) = buffers.run(&term, step as u32, u32::MAX);
+        let (ran, state) = buffers.run(&term, step as u32, Caller::FIRST, Desk::alone(u32::MAX));
         assert_eq!(ran.answer.unwrap().steps, step as u32);
         let head = if step == 0 { "0:".to_string() } else { format!("{step}: {}", rules[(step - 1) % rules.len()]) };
         assert_eq!(*line, format!("{head:<18} {}", Style::default().on_one_line().show(state).unwrap()));

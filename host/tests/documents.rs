@@ -60,15 +60,16 @@ fn commands_print_what_stands_there() {
 
 #[test]
 fn answered_as_printed() {
-    let mut slices = Slices::new();
-    let (mut answered, mut by_kind) = (0, 0);
+    let (mut answered, mut by_kind, mut of_desk) = (0, 0, 0);
     for document in documents() {
+        let mut slices = Slices::new();
         for (request, printed) in examples(&read_to_string(&document).unwrap()) {
             assert_eq!(slices.answer(request).as_deref(), Some(printed), "{}: {request}", document.display());
             answered += 1;
             by_kind += request.starts_with("kinds ") as u32;
+            of_desk += request.starts_with("desk ") as u32;
         }
     }
-    println!("{answered} examples answered, {by_kind} of them by kind");
-    assert!(answered >= 56 && by_kind >= 7);
+    println!("{answered} examples answered, {by_kind} of them by kind, {of_desk} about the desk");
+    assert!(answered >= 66 && by_kind >= 7 && of_desk >= 10);
 }

@@ -1,6 +1,6 @@
 //! The edges of document 01 and the settled readings of docs/DECISIONS.md.
 
-use feguavy::{part, Buffers, End, Ended, Reason, Refusal};
+use feguavy::{part, Buffers, Caller, Desk, End, Ended, Reason, Refusal};
 
 fn words(text: &str) -> Vec<u16> {
     text.split_whitespace().map(|w| w.parse().unwrap()).collect()
@@ -19,10 +19,10 @@ fn refuses(limit: u32, term: &[u16], number: u32, place: usize) {
 
 fn ends(term: &str, budget: u32, end: End, steps: u32, state: &str) {
     let mut buffers = Buffers::for_limit(1);
-    let (ran, reached) = buffers.run(&words(term), budget, u32::MAX);
+    let (ran, reached) = buffers.run(&words(term), budget, Caller::FIRST, Desk::alone(u32::MAX));
     let ended = ran.answer.unwrap();
     assert_eq!((ended.end, ended.steps), (end, steps), "{term}");
-    assert_eq!(ran.allowance, u32::MAX - steps);
+    assert_eq!(ran.desk, Desk::alone(u32::MAX - steps));
     assert_eq!(reached, words(state));
 }
 
@@ -133,27 +133,32 @@ fn ends_of_runs() {
     let mut buffers = Buffers::for_limit(1);
     // μ x : ⋆. x x doubles: the state with which it ends is the last within 1,024 words
     let growing = words("6 0 2 16 16");
-    let (ran, state) = buffers.run(&growing, 1000, 1000);
+    let mut run = |term: &[u16], budget, allowance| {
+        let (ran, state) = buffers.run(term, budget, Caller::FIRST, Desk::alone(allowance));
+        (ran, state.len())
+    };
+    let (ran, length) = run(&growing, 1000, 1000);
     let ended = ran.answer.unwrap();
     assert_eq!(ended.end, End::Long);
-    assert!(state.len() <= 1024);
+    assert!(length <= 1024);
     // spent is told before a next state that is too long
-    assert_eq!(buffers.run(&growing, ended.steps + 1, 1000).0.answer, Ok(ended));
-    assert_eq!(buffers.run(&growing, ended.steps, 1000).0.answer, Ok(Ended { end: End::Spent, ..ended }));
+    assert_eq!(run(&growing, ended.steps + 1, 1000).0.answer, Ok(ended));
+    assert_eq!(run(&growing, ended.steps, 1000).0.answer, Ok(Ended { end: End::Spent, ..ended }));
     // and all this by the allowance where it is the smaller of the two
     for (term, allowance, end) in [("0", 0, End::Value), ("2 6 0 0 0", 1, End::Stuck), ("6 0 0", 0, End::Spent)] {
-        let (ran, _) = buffers.run(&words(term), 1000, allowance);
-        assert_eq!((ran.answer.unwrap().end, ran.allowance), (end, 0), "{term}");
+        let (ran, _) = run(&words(term), 1000, allowance);
+        assert_eq!((ran.answer.unwrap().end, ran.desk), (end, Desk::alone(0)), "{term}");
     }
-    let refused = buffers.run(&[7], 5, 3).0;
+    let refused = run(&[7], 5, 3).0;
     assert_eq!(refused.answer, Err(Refusal { reason: Reason::NoMeaning, place: 0 }));
-    assert_eq!(refused.allowance, 3);
+    assert_eq!(refused.desk, Desk::alone(3));
 }
 
 #[test]
 fn texts() {
-    for (i, reason) in Reason::ALL.into_iter().enumerate() {
-        assert_eq!(reason.number() as usize, i + 1);
+    for (reason, number) in Reason::ALL.into_iter().zip((1..=16).chain([21])) {
+        assert_eq!(reason.number(), number);
         assert!(!reason.to_string().is_empty());
     }
+    assert_eq!(Caller::try_from(8).unwrap_err().to_string(), "a caller above 7 (refusal 21)");
 }

@@ -1,6 +1,6 @@
 //! Steps by kind: each count is that of its rule, whatever S_APP and S_CASTDOWN surround the step, and the three add up to the steps.
 
-use feguavy::{Buffers, End, Ended, Kind};
+use feguavy::{Buffers, Caller, Desk, End, Ended, Kind};
 use std::path::Path;
 
 /// A redex of each kind; each steps to star.
@@ -8,7 +8,7 @@ const REDEXES: [(Kind, &[u16]); 3] =
     [(Kind::Substitution, &[2, 4, 0, 16, 0]), (Kind::Unfolding, &[6, 0, 0]), (Kind::Cancellation, &[1, 3, 0, 0])];
 
 fn ended(term: &[u16], budget: u32) -> Ended {
-    Buffers::for_limit(1).run(term, budget, u32::MAX).0.answer.unwrap()
+    Buffers::for_limit(1).run(term, budget, Caller::FIRST, Desk::alone(u32::MAX)).0.answer.unwrap()
 }
 
 fn counts(ended: Ended) -> [u32; 3] {
@@ -87,7 +87,7 @@ fn the_three_add_up_to_the_steps() {
     let mut buffers = Buffers::for_limit(1);
     let (mut runs, mut steps) = (0, [0; 3]);
     for (budget, allowance, term) in stored() {
-        let Ok(ended) = buffers.run(&term, budget, allowance).0.answer else { continue };
+        let Ok(ended) = buffers.run(&term, budget, Caller::FIRST, Desk::alone(allowance)).0.answer else { continue };
         assert_eq!(counts(ended).iter().sum::<u32>(), ended.steps, "{term:?}");
         runs += 1;
         Kind::ALL.into_iter().for_each(|kind| steps[kind as usize] += ended.of_kind(kind));
@@ -102,7 +102,7 @@ fn each_step_is_of_one_kind() {
     let mut buffers = Buffers::for_limit(1);
     let mut found = [0; 3];
     for (_, _, term) in stored() {
-        let mut after = |budget| buffers.run(&term, budget, u32::MAX).0.answer;
+        let mut after = |budget| buffers.run(&term, budget, Caller::FIRST, Desk::alone(u32::MAX)).0.answer;
         for budget in 1..=20 {
             let (Ok(before), Ok(now)) = (after(budget - 1), after(budget)) else { break };
             if now.steps < budget {

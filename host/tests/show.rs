@@ -2,7 +2,7 @@
 
 mod shown;
 
-use feguavy::{bytes_from_words, show, words_from_bytes, Buffers, Reason, Refusal, Style};
+use feguavy::{bytes_from_words, show, words_from_bytes, Buffers, Caller, Desk, Reason, Refusal, Style};
 
 fn words(text: &str) -> Vec<u16> {
     text.split_whitespace().map(|w| w.parse().unwrap()).collect()
@@ -162,7 +162,7 @@ fn states_of_runs_are_shown() {
     // states that nest as deep as they are long
     let mut buffers = Buffers::for_limit(1);
     for node in [&[1, 16][..], &[2, 16, 0], &[5, 0, 17], &[4, 0, 17]] {
-        let (ran, state) = buffers.run(&[&[6, 0][..], node].concat(), 2000, 2000);
+        let (ran, state) = buffers.run(&[&[6, 0][..], node].concat(), 2000, Caller::FIRST, Desk::alone(2000));
         assert!(ran.answer.is_ok());
         let state = state.to_vec();
         assert!(show(&state).is_ok());

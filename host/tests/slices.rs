@@ -1,6 +1,6 @@
 //! Every word of every lent slice, before and after, at each boundary length.
 
-use feguavy::{check, check_work, length, raw, run, Checked, LONGEST, RUN_WORK};
+use feguavy::{check, check_work, length, raw, Checked, Desk, LONGEST, RUN_WORK};
 
 fn garbage(count: usize) -> Vec<u16> {
     (0..count).map(|i| (i % 20000) as u16 + 40000).collect()
@@ -60,40 +60,44 @@ fn checks() {
     }
 }
 
-/// The numbers of a run that the archive answers beside the answer, its place and the allowance, also where it is refused.
-fn numbers(term: &[u16], budget: u32, work: &mut [u16], state: &mut [u16], allowance: u32) -> [u32; 5] {
-    let r = raw::run(term, budget, work, state, allowance);
-    [r.end, r.steps, r.substitutions, r.unfoldings, r.cancellations]
-}
+/// Callers at and past the edges of the desk.
+const CALLERS: [u32; 7] = [0, 1, 3, 7, 8, 15, u32::MAX];
 
 #[test]
 fn runs() {
-    for term in TERMS {
+    for (term, caller) in TERMS.iter().flat_map(|term| CALLERS.map(|caller| (term, caller))) {
         for (budget, allowance) in [(0, 5), (1, 5), (7, 3), (1000, u32::MAX), (3, 0)] {
+            let mut desk = Desk { allowances: [11, 12, 13, 14, 15, 16, 17, u32::MAX] };
+            if let Some(own) = desk.allowances.get_mut(caller as usize) {
+                *own = allowance;
+            }
             for work_len in lengths(RUN_WORK) {
                 for state_len in lengths(LONGEST) {
                     let (mut work, mut state) = (garbage(work_len), garbage(state_len));
-                    let ran = run(term, budget, &mut work, &mut state, allowance);
+                    let ran = raw::run(term, budget, &mut work, &mut state, caller, desk);
                     let (before, kept) = (garbage(work_len), garbage(state_len));
-                    match ran.answer {
-                        Err(refusal) => {
-                            assert_eq!((&work, &state, ran.allowance), (&before, &kept, allowance));
-                            let number = refusal.reason.number();
-                            assert!((2..=9).contains(&number));
-                            assert_eq!(number == 2, work_len < RUN_WORK);
-                            assert_eq!(number == 3, work_len >= RUN_WORK && state_len < LONGEST);
-                            assert_eq!(numbers(term, budget, &mut work, &mut state, allowance), [0; 5]);
-                        }
-                        Ok(ended) => {
-                            assert!(work_len >= RUN_WORK && state_len >= LONGEST);
-                            assert!(work[..RUN_WORK].iter().all(|&w| w == 0));
-                            assert_eq!(work[RUN_WORK..], before[RUN_WORK..]);
-                            let n = length(&state);
-                            assert_eq!(state[n..], kept[n..]);
-                            assert!(ended.steps <= budget.min(allowance));
-                            assert_eq!(ran.allowance, allowance - ended.steps);
-                            assert_eq!(ended.steps, ended.substitutions + ended.unfoldings + ended.cancellations);
-                        }
+                    let counts = [ran.substitutions, ran.unfoldings, ran.cancellations];
+                    if ran.answer != 0 {
+                        assert_eq!((&work, &state, ran.desk), (&before, &kept, desk));
+                        let expected = match () {
+                            _ if caller > 7 => Some(21),
+                            _ if work_len < RUN_WORK => Some(2),
+                            _ if state_len < LONGEST => Some(3),
+                            _ => None,
+                        };
+                        assert!(expected.map_or((4..=9).contains(&ran.answer), |number| (number, 0) == (ran.answer, ran.place)));
+                        assert_eq!((ran.end, ran.steps, counts), (0, 0, [0; 3]));
+                    } else {
+                        assert!(caller <= 7 && work_len >= RUN_WORK && state_len >= LONGEST);
+                        assert!(work[..RUN_WORK].iter().all(|&w| w == 0));
+                        assert_eq!(work[RUN_WORK..], before[RUN_WORK..]);
+                        let n = length(&state);
+                        assert_eq!(state[n..], kept[n..]);
+                        assert!(ran.steps <= budget.min(allowance));
+                        assert_eq!(ran.steps, counts.iter().sum());
+                        let mut left = desk;
+                        left.allowances[caller as usize] -= ran.steps;
+                        assert_eq!(ran.desk, left);
                     }
                 }
             }

@@ -1,7 +1,7 @@
 //! The library's own stack stays under 1 MiB: it is painted below a call and looked at afterwards.
 
 use feguavy::shapes::redex;
-use feguavy::{Buffers, LARGEST_LIMIT};
+use feguavy::{Buffers, Caller, Desk, Ran, LARGEST_LIMIT};
 use std::hint::black_box;
 
 const DEPTH: usize = 2 << 20;
@@ -57,25 +57,29 @@ fn growing(node: &[u16]) -> Vec<u16> {
     [&[6, 0][..], node].concat()
 }
 
+fn run(buffers: &mut Buffers, term: &[u16], budget: u32) -> Ran {
+    buffers.run(term, budget, Caller::FIRST, Desk::alone(budget)).0
+}
+
 #[test]
 fn under_one_mebibyte() {
     let mut most = 0;
     let deep: Vec<Vec<u16>> = (2..=6).flat_map(|kind| [nested(kind, 63, true), nested(kind, 63, false)]).collect();
     for term in deep.iter().chain([&nested(5, 9, true)]) {
         most = most.max(stack_of(|b| _ = b.type_of(term)));
-        most = most.max(stack_of(|b| _ = b.run(term, 1000, 1000)));
+        most = most.max(stack_of(|b| _ = run(b, term, 1000)));
     }
     for node in [&[1, 16][..], &[2, 16, 0], &[2, 0, 16], &[5, 0, 17], &[5, 16, 0], &[4, 0, 17], &[3, 0, 16], &[6, 0, 17]] {
         let term = growing(node);
-        most = most.max(stack_of(|b| _ = b.run(&term, 2000, 2000)));
+        most = most.max(stack_of(|b| _ = run(b, &term, 2000)));
         // the state put into a body once more, at full depth
         let applied = [&[2, 4, 0][..], &[5, 0, 17], &term[..]].concat();
-        most = most.max(stack_of(|b| _ = b.run(&applied, 2000, 2000)));
+        most = most.max(stack_of(|b| _ = run(b, &applied, 2000)));
     }
     // substitution into bodies nested some 475 levels deep
     for kind in ["left", "right"] {
         let (term, steps) = redex(kind, 951);
-        most = most.max(stack_of(|b| assert_eq!(b.run(&term, steps + 1, 2000).0.answer.unwrap().steps, steps + 1)));
+        most = most.max(stack_of(|b| assert_eq!(run(b, &term, steps + 1).answer.unwrap().steps, steps + 1)));
     }
     println!("at most {most} bytes of stack");
     assert!(most < 1 << 20);

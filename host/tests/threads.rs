@@ -1,6 +1,6 @@
 //! Calls from several threads at once: there is no shared state, each caller lends its own slices.
 
-use feguavy::Buffers;
+use feguavy::{Buffers, Caller, Desk};
 
 #[test]
 fn several_at_once() {
@@ -12,8 +12,8 @@ fn several_at_once() {
                 let mut buffers = Buffers::for_limit(64 + thread);
                 for _ in 0..2000 {
                     assert_eq!(buffers.type_of(term), Ok(&[5, 0, 0][..]));
-                    let (ran, state) = buffers.run(&[6, 0, 16], thread, 100);
-                    assert_eq!((ran.allowance, state), (100 - thread, &[6, 0, 16][..]));
+                    let (ran, state) = buffers.run(&[6, 0, 16], thread, Caller::FIRST, Desk::alone(100));
+                    assert_eq!((ran.desk, state), (Desk::alone(100 - thread), &[6, 0, 16][..]));
                 }
             });
         }

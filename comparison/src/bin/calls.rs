@@ -5,6 +5,7 @@ use comparison::grant::needed;
 use comparison::request::{Call, Request, Requests};
 use comparison::side::{asked, proved, reference, Answer, Side};
 use comparison::tally::{report, Tally};
+use feguavy::Desk;
 use reference::gen::Rng;
 use std::process::ExitCode;
 
@@ -52,11 +53,18 @@ impl Cases {
         &mut self.requests.0.r
     }
 
-    /// The generator's own numbers, or others: any limit to a little above the largest, grants at the steps needed, and the edges.
+    /// The generator's own numbers, or others: any limit to a little above the largest, grants at the steps needed, and the edges. Of
+    /// runs the callers are any.
     fn call(&mut self, call: Call, term: &[u16]) -> Call {
         let numbers = self.numbers();
         if numbers.one_in(2) {
-            return call;
+            return match call {
+                Call::Run { budget, desk, kinds, .. } => {
+                    let (caller, desk) = self.at_the_desk(desk.allowances[0]);
+                    Call::Run { budget, caller, desk, kinds }
+                }
+                _ => call,
+            };
         }
         match call {
             Call::Check { .. } => {
@@ -71,10 +79,22 @@ impl Cases {
                 };
                 let any = *numbers.pick(&[0, 1, 39, 1000, u32::MAX - 1, u32::MAX]);
                 let (budget, allowance) = if numbers.one_in(2) { (grant, any) } else { (any, grant) };
-                Call::Run { budget, allowance, kinds }
+                let (caller, desk) = self.at_the_desk(allowance);
+                Call::Run { budget, caller, desk, kinds }
             }
             Call::Part { .. } => Call::Part { number: *numbers.pick(&[0, 1, 2, 3, u32::MAX]) },
         }
+    }
+
+    /// A caller with that allowance, whose neighbours have any; and now and then one that the desk does not have.
+    fn at_the_desk(&mut self, allowance: u32) -> (u32, Desk) {
+        let numbers = self.numbers();
+        let mut desk = Desk { allowances: [0; 8].map(|_| numbers.next() as u32 >> numbers.below(32)) };
+        let caller = if numbers.one_in(12) { *numbers.pick(&[8, 9, 15, 1 << 16, u32::MAX]) } else { numbers.below(8) as u32 };
+        if let Some(own) = desk.allowances.get_mut(caller as usize) {
+            *own = allowance;
+        }
+        (caller, desk)
     }
 
     /// The generator's term, or one that was changed, or any words at all.
@@ -165,15 +185,16 @@ fn compare(
         if let Some(difference) = difference(&ours, &theirs) {
             let (work, result) = (case.work.to - case.work.from, case.result.to - case.result.from);
             return Err(format!(
-                "the outcomes of a call differ\n{}\non a working slice of {work} words and an output or state slice of {result}: {difference}\n\
-                 `calls {seed} {}` ends with this call",
+                "the outcomes of a call differ\n{}\n{:?}\non a working slice of {work} words and an output or state slice of {result}: \
+                 {difference}\n`calls {seed} {}` ends with this call",
                 case.request.line(),
+                case.request.call,
                 number + 1
             ));
         }
         tally.add(&case.request, ours.answer.kind());
     }
-    tally.covering(count)
+    tally.covering(count)?.of_every_caller()
 }
 
 fn main() -> ExitCode {
@@ -212,7 +233,7 @@ mod tests {
     fn noticed_where_refused(change: fn(&mut Ran)) -> bool {
         noticed(|call, term, work, result| {
             let mut answer = reference(call, term, work, result);
-            if let (Call::Run { .. }, Answer::Refused { ran, .. }) = (call, &mut answer) {
+            if let Answer::Refused { ran: Some(ran), .. } = &mut answer {
                 change(ran);
             }
             answer
@@ -237,8 +258,7 @@ mod tests {
     fn spent_before_a_value_or_stuck_is_noticed() {
         for end in [1, 3] {
             assert!(noticed(|call, term, work, result| match (call, reference(call, term, work, result)) {
-                (Call::Run { budget, allowance, .. }, Answer::Ended(ran))
-                    if ran.end == end && ran.steps == budget.min(allowance) =>
+                (call, Answer::Ended(ran)) if ran.end == end && Some(ran.steps) == call.grant() =>
                     Answer::Ended(Ran { end: 2, ..ran }),
                 (_, answer) => answer,
             }));
@@ -247,7 +267,61 @@ mod tests {
 
     #[test]
     fn an_allowance_lowered_by_a_refusal_is_noticed() {
-        assert!(noticed_where_refused(|ran| ran.left /= 2));
+        for caller in 0..8 {
+            let lowered = |call: Call, term: &[u16], work: &mut [u16], result: &mut [u16]| {
+                let mut answer = reference(call, term, work, result);
+                if let Answer::Refused { ran: Some(ran), .. } = &mut answer {
+                    ran.desk.allowances[caller] /= 2;
+                }
+                answer
+            };
+            assert!(noticed(lowered), "{caller}");
+        }
+    }
+
+    /// Document 02, 2.9: "only that caller's allowance falls".
+    #[test]
+    fn a_neighbours_allowance_lowered_is_noticed() {
+        assert!(noticed(|call, term, work, result| match (call, reference(call, term, work, result)) {
+            (Call::Run { caller, .. }, Answer::Ended(mut ran)) => {
+                let neighbour = &mut ran.desk.allowances[(caller as usize + 1) % 8];
+                *neighbour = neighbour.saturating_sub(ran.steps);
+                Answer::Ended(ran)
+            }
+            (_, answer) => answer,
+        }));
+    }
+
+    #[test]
+    fn a_desk_handed_back_unchanged_is_noticed() {
+        assert!(noticed(|call, term, work, result| match (call, reference(call, term, work, result)) {
+            (Call::Run { desk, .. }, Answer::Ended(ran)) => Answer::Ended(Ran { desk, ..ran }),
+            (_, answer) => answer,
+        }));
+    }
+
+    #[test]
+    fn a_grant_of_caller_0_is_noticed() {
+        assert!(noticed(|call, term, work, result| match call {
+            Call::Run { budget, caller: 1..=7, desk, kinds } => {
+                // no more than a small grant, since a run may have no end
+                let budget = budget.min(desk.allowances[0]).min(40);
+                reference(Call::Run { budget, caller: 0, desk, kinds }, term, work, result)
+            }
+            _ => reference(call, term, work, result),
+        }));
+    }
+
+    #[test]
+    fn a_caller_tested_after_the_slices_is_noticed() {
+        assert!(noticed(|call, term, work, result| match call {
+            Call::Run { caller, desk, .. } if caller > 7 && work.len() < asked(call).0 => {
+                let Answer::Refused { ran, .. } = reference(call, term, work, result) else { panic!("a caller above 7") };
+                assert_eq!(ran.map(|ran| ran.desk), Some(desk));
+                Answer::Refused { reason: 2, place: 0, ran }
+            }
+            _ => reference(call, term, work, result),
+        }));
     }
 
     #[test]

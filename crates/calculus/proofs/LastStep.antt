@@ -1,6 +1,6 @@
 -- A result on the last step. The earlier order of ends is one as well, so that the earlier run is by the relation what it was; and of a
 -- run that ends, the earlier end at the same state follows from the present one.
-use Prim.Native.Nat.{ℕ, suc, _≤_, _<_, min}
+use Prim.Native.Nat.{ℕ, suc, _≤_, _<_}
 use mathlib.Core.Bool.{true≢false}
 use mathlib.Core.List.{List}
 use mathlib.Core.Path.{_≡_, refl, sym, ap, subst}
@@ -9,8 +9,8 @@ use native.Mathlib.Nat.{suc-inj}
 use native.Mathlib.Omega.{arith}
 use Rattle.calculus.specs.Term.{Term}
 use Rattle.calculus.specs.Run.{End, spent, at-value, at-stuck, too-long, Ends, ends-value, ends-stuck, ends-spent, ends-long}
-use Rattle.calculus.specs.Outcomes.{Ran, run}
-use Rattle.calculus.specs.Runs.{Runs, work-refused, state-refused, unread, ended}
+use Rattle.calculus.specs.Outcomes.{grant, Ran, run}
+use Rattle.calculus.specs.Runs.{Runs, caller-refused, work-refused, state-refused, unread, ended}
 use Rattle.calculus.specs.Earlier as earlier
 use Rattle.calculus.specs.Changes.{Becomes, now-value, now-stuck, still-spent, as-before, OneForOne, EndChanged, refused-alike, ended-alike, LastStep}
 use Rattle.calculus.proofs.Reduction.{value-rests}
@@ -99,15 +99,16 @@ had (ends-spent e s) = (spent, earlier.ends-spent e, still-spent e s)
 had (ends-long h s l) = (too-long, earlier.ends-long h s l, as-before {E = too-long} h (λ e. absurd (true≢false (cc e))))
 
 pub last-step : LastStep
-last-step ws budget allowance W S = on (run-runs ws budget allowance W S)
+last-step ws budget caller desk W S = on (run-runs ws budget caller desk W S)
   where
-    before : {b c : Ran} → Runs earlier.Ends ws budget allowance W S b → EndChanged ws (min budget allowance) S b c
-        → EndChanged ws (min budget allowance) S (earlier.run ws budget allowance W S) c
+    before : {b c : Ran} → Runs earlier.Ends ws budget caller desk W S b → EndChanged ws (grant budget caller desk) S b c
+        → EndChanged ws (grant budget caller desk) S (earlier.run ws budget caller desk W S) c
     before {b} {c} r =
-        subst (λ a. EndChanged ws (min budget allowance) S a c) (sym (earlier-demand2-run ws budget allowance W S b .1 r))
+        subst (λ a. EndChanged ws (grant budget caller desk) S a c) (sym (earlier-demand2-run ws budget caller desk W S b .1 r))
 
-    on : {c : Ran} → Runs Ends ws budget allowance W S c → EndChanged ws (min budget allowance) S (earlier.run ws budget allowance W S) c
-    on (work-refused w) = before (work-refused w) refused-alike
-    on (state-refused w s) = before (state-refused w s) refused-alike
-    on (unread w s m) = before (unread w s m) refused-alike
-    on (ended w s c h q a b l f) = let (E, e, k) = had f in before (ended w s c h q a b l e) (ended-alike c h k)
+    on : {c : Ran} → Runs Ends ws budget caller desk W S c → EndChanged ws (grant budget caller desk) S (earlier.run ws budget caller desk W S) c
+    on (caller-refused i) = before (caller-refused i) refused-alike
+    on (work-refused i w) = before (work-refused i w) refused-alike
+    on (state-refused i w s) = before (state-refused i w s) refused-alike
+    on (unread i w s m) = before (unread i w s m) refused-alike
+    on (ended i w s c h q a b l f) = let (E, e, k) = had f in before (ended i w s c h q a b l e) (ended-alike c h k)

@@ -36,3 +36,5 @@ pub mod SafetyDemand
 pub mod NumberInjective
 pub mod Table
 pub mod LastStep
+pub mod Alone
+pub mod Shares

@@ -5,14 +5,14 @@ use mathlib.Core.Logic.{_≢_}
 use mathlib.Core.Path.{_≡_, refl, sym, ap, _∙_}
 use native.Mathlib.Omega.{arith}
 use lib.ListN.{getD}
-use Rattle.calculus.specs.Answer.{Reason, limit-not-allowed, work-short, output-short, length-not-allowed, no-meaning, list-ends, words-after, level-65, unbound, not-star, not-product, wrong-argument, no-step, wrong-cast, wrong-recursion, over-limit, number, NumbersApart}
+use Rattle.calculus.specs.Answer.{Reason, limit-not-allowed, work-short, output-short, length-not-allowed, no-meaning, list-ends, words-after, level-65, unbound, not-star, not-product, wrong-argument, no-step, wrong-cast, wrong-recursion, over-limit, caller-not-allowed, number, NumbersApart}
 use Rattle.calculus.specs.Run.{End, at-value, spent, at-stuck, too-long, end-number, EndNumbersApart}
 
 -- A function that another undoes is injective.
 pub undone : {A B : Type 0} (f : A → B) (g : B → A) → ((a : A) → g (f a) ≡ a) → (a b : A) → f a ≡ f b → a ≡ b
 undone f g h a b e = sym (h a) ∙ ap g e ∙ h b
 
--- The reasons from number 0 on; no reason has the number 0.
+-- The reasons from number 0 on; no reason has the number 0, nor one from 17 to 20.
 reasons : List Reason
 reasons =
     limit-not-allowed
@@ -32,6 +32,11 @@ reasons =
     ∷ wrong-cast
     ∷ wrong-recursion
     ∷ over-limit
+    ∷ limit-not-allowed
+    ∷ limit-not-allowed
+    ∷ limit-not-allowed
+    ∷ limit-not-allowed
+    ∷ caller-not-allowed
     ∷ []
 
 reason-found : (r : Reason) → getD reasons (number r) limit-not-allowed ≡ r
@@ -52,6 +57,7 @@ reason-found no-step = refl
 reason-found wrong-cast = refl
 reason-found wrong-recursion = refl
 reason-found over-limit = refl
+reason-found caller-not-allowed = refl
 
 pub number-injective : NumbersApart
 number-injective = undone number (λ n. getD reasons n limit-not-allowed) reason-found

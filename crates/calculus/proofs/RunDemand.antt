@@ -1,84 +1,92 @@
 -- Demand 2 for runs. Whatever `Runs` says is what `run` answers, by computing through the tests and, past them, since a run has one
 -- course; and `Runs` says something of every call, since each test is decided and every run has a course.
-use Prim.Native.Nat.{ℕ, _≤_, zero-le, min}
+use Prim.Native.Nat.{ℕ, _≤_, zero-le}
 use mathlib.Core.Bool.{true≢false}
 use mathlib.Core.List.{List}
-use mathlib.Core.Logic.{_↔_, ⊎-elim}
+use mathlib.Core.Logic.{_↔_, _⊎_, inl, inr, ⊎-elim}
 use mathlib.Core.Path.{_≡_, refl, sym, subst}
 use native.Mathlib.Decide.{decLe}
 use native.Mathlib.Omega.{arith}
 use lib.Dec.{lit≤}
 use lib.ListN.{length}
 use Rattle.calculus.specs.Term.{Term}
-use Rattle.calculus.specs.Answer.{Answer, ok, refused, _>>=_, _>>_, require, number}
+use Rattle.calculus.specs.Answer.{Answer, Reason, ok, refused, _>>=_, _>>_, require, number}
 use Rattle.calculus.specs.Words.{longest}
 use Rattle.calculus.specs.Scan.{read}
 use Rattle.calculus.specs.Kinds.{total}
 use Rattle.calculus.specs.Step.{Next}
 use Rattle.calculus.specs.Run.{End, Ends, ends-value, ends-stuck, ends-spent, ends-long, run-until}
-use Rattle.calculus.specs.Outcomes.{run-room, Ran, course, ran, run-by, run}
-use Rattle.calculus.specs.Runs.{Runs, work-refused, state-refused, unread, ended, Demand2-run, CountsAddUp, Rests, SameAgain, EnoughSteps, RunRefusals}
+use Rattle.calculus.specs.Outcomes.{run-room, Desk, last-caller, grant, Ran, course, ran, run-by, run}
+use Rattle.calculus.specs.Runs.{Runs, caller-refused, work-refused, state-refused, unread, ended, Demand2-run, CountsAddUp, Rests, SameAgain, EnoughSteps, RunRefusals}
 use Rattle.calculus.proofs.Comparisons.{le-leb, gt-leb}
-use Rattle.calculus.proofs.Says.{By, Says, says-ok, says-refused, of-ok, of-refused}
+use Rattle.calculus.proofs.Says.{Says, says-ok, says-refused, of-ok, of-refused}
 use Rattle.calculus.proofs.ReadBack.{codes-read, misread-refused, read-sound, refused-misread, misread-numbers}
 use Rattle.calculus.proofs.Courses.{Tested, tested, until-course, until-answer}
 
 -- A run by any order of ends.
-module _ {Order : ℕ → ℕ → Term → End → Type 0} {last : Next → End} (T : Tested Order last) (ws : List ℕ) (budget allowance : ℕ)
-    (W S : List ℕ) where
-  run-by-answer : {c : Ran} → Runs Order ws budget allowance W S c → run-by (run-until last) ws budget allowance W S ≡ c
+module _ {Order : ℕ → ℕ → Term → End → Type 0} {last : Next → End} (T : Tested Order last) (ws : List ℕ) (budget caller : ℕ)
+    (desk : Desk) (W S : List ℕ) where
+  run-by-answer : {c : Ran} → Runs Order ws budget caller desk W S c → run-by (run-until last) ws budget caller desk W S ≡ c
   unfolding run-by ran course require _>>_ _>>=_
-  run-by-answer (work-refused w) = rw (gt-leb run-room (length W) w) refl
-  run-by-answer (state-refused w s) = rw (le-leb run-room (length W) w, gt-leb longest (length S) s) refl
-  run-by-answer (unread w s m) = rw (le-leb run-room (length W) w, le-leb longest (length S) s, misread-refused m) refl
-  run-by-answer (ended {n = n} w s c h q a b l f) =
+  run-by-answer (caller-refused k) = rw (gt-leb caller last-caller k) refl
+  run-by-answer (work-refused k w) = rw (le-leb caller last-caller k, gt-leb run-room (length W) w) refl
+  run-by-answer (state-refused k w s) =
+      rw (le-leb caller last-caller k, le-leb run-room (length W) w, gt-leb longest (length S) s) refl
+  run-by-answer (unread k w s m) =
+      rw (le-leb caller last-caller k, le-leb run-room (length W) w, le-leb longest (length S) s, misread-refused m) refl
+  run-by-answer (ended {n = n} k w s c h q a b l f) =
       rw (
+        le-leb caller last-caller k,
         le-leb run-room (length W) w,
         le-leb longest (length S) s,
         codes-read c,
-        until-answer T (min budget allowance) n (record { last = h; counted = q; adds = a; bounded = b; within = l; ends = f }),
+        until-answer T (grant budget caller desk) n (record { last = h; counted = q; adds = a; bounded = b; within = l; ends = f }),
       )
       refl
 
   -- One of the cases holds.
   abbrev Outcome : Type 0
-  Outcome = (c : Ran) × Runs Order ws budget allowance W S c
+  Outcome = (c : Ran) × Runs Order ws budget caller desk W S c
 
   outcome : Outcome
-  outcome = by-work (decLe run-room (length W))
+  outcome = by-caller (decLe caller last-caller)
     where
-      by-reading : run-room ≤ length W → longest ≤ length S → (x : Answer Term) → read ws ≡ x → Outcome
-      by-reading w s (ok t) e =
+      by-reading : caller ≤ last-caller → run-room ≤ length W → longest ≤ length S → (x : Answer Term) → read ws ≡ x → Outcome
+      by-reading k w s (ok t) e =
           let c = read-sound ws t e in
-          let k = until-course T (min budget allowance) t (c .1 .short) in
-          (_, ended w s c (k .last) (k .counted) (k .adds) (k .bounded) (k .within) (k .ends))
-      by-reading w s (refused r p) e = (_, unread w s (refused-misread ws r p e))
+          let h = until-course T (grant budget caller desk) t (c .1 .short) in
+          (_, ended k w s c (h .last) (h .counted) (h .adds) (h .bounded) (h .within) (h .ends))
+      by-reading k w s (refused r p) e = (_, unread k w s (refused-misread ws r p e))
 
-      by-state : run-room ≤ length W → Dec (longest ≤ length S) → Outcome
-      by-state w (yes s) = by-reading w s (read ws) refl
-      by-state w (no s) = (_, state-refused w (omega arith))
+      by-state : caller ≤ last-caller → run-room ≤ length W → Dec (longest ≤ length S) → Outcome
+      by-state k w (yes s) = by-reading k w s (read ws) refl
+      by-state k w (no s) = (_, state-refused k w (omega arith))
 
-      by-work : Dec (run-room ≤ length W) → Outcome
-      by-work (yes w) = by-state w (decLe longest (length S))
-      by-work (no w) = (_, work-refused (omega arith))
+      by-work : caller ≤ last-caller → Dec (run-room ≤ length W) → Outcome
+      by-work k (yes w) = by-state k w (decLe longest (length S))
+      by-work k (no w) = (_, work-refused k (omega arith))
 
-  run-by-runs : Runs Order ws budget allowance W S (run-by (run-until last) ws budget allowance W S)
-  run-by-runs = subst (Runs Order ws budget allowance W S) (sym (run-by-answer (outcome .1))) (outcome .1)
+      by-caller : Dec (caller ≤ last-caller) → Outcome
+      by-caller (yes k) = by-work k (decLe run-room (length W))
+      by-caller (no k) = (_, caller-refused (omega arith))
 
-  pub run-by-demand : (c : Ran) → (run-by (run-until last) ws budget allowance W S ≡ c) ↔ Runs Order ws budget allowance W S c
-  run-by-demand c = (λ e. subst (Runs Order ws budget allowance W S) e run-by-runs, run-by-answer)
+  run-by-runs : Runs Order ws budget caller desk W S (run-by (run-until last) ws budget caller desk W S)
+  run-by-runs = subst (Runs Order ws budget caller desk W S) (sym (run-by-answer (outcome .1))) (outcome .1)
+
+  pub run-by-demand : (c : Ran) → (run-by (run-until last) ws budget caller desk W S ≡ c) ↔ Runs Order ws budget caller desk W S c
+  run-by-demand c = (λ e. subst (Runs Order ws budget caller desk W S) e run-by-runs, run-by-answer)
 
 pub demand2-run : Demand2-run
 demand2-run = run-by-demand tested
 
-pub run-answer : (ws : List ℕ) (budget allowance : ℕ) (W S : List ℕ) {c : Ran}
-    → Runs Ends ws budget allowance W S c
-    → run ws budget allowance W S ≡ c
-run-answer ws budget allowance W S {c} = demand2-run ws budget allowance W S c .1
+pub run-answer : (ws : List ℕ) (budget caller : ℕ) (desk : Desk) (W S : List ℕ) {c : Ran}
+    → Runs Ends ws budget caller desk W S c
+    → run ws budget caller desk W S ≡ c
+run-answer ws budget caller desk W S {c} = demand2-run ws budget caller desk W S c .1
 
-pub run-runs : (ws : List ℕ) (budget allowance : ℕ) (W S : List ℕ)
-    → Runs Ends ws budget allowance W S (run ws budget allowance W S)
-run-runs ws budget allowance W S = demand2-run ws budget allowance W S _ .0 refl
+pub run-runs : (ws : List ℕ) (budget caller : ℕ) (desk : Desk) (W S : List ℕ)
+    → Runs Ends ws budget caller desk W S (run ws budget caller desk W S)
+run-runs ws budget caller desk W S = demand2-run ws budget caller desk W S _ .0 refl
 
 -- A run at rest has the same end with every grant of its steps or more, and so the same outcome.
 rests-within : {g g′ n : ℕ} {x : Term} {E : End} → Ends g n x E → Rests E → n ≤ g′ → Ends g′ n x E
@@ -88,39 +96,45 @@ rests-within (ends-spent e s) r l = absurd (⊎-elim (λ e. true≢false (cc e))
 rests-within (ends-long h s l′) r l = absurd (⊎-elim (λ e. true≢false (cc e)) (λ e. true≢false (cc e)) r)
 
 pub enough-steps : EnoughSteps
-enough-steps ws budget allowance W S s e = of-ok (rw e at (again (run-runs ws budget allowance W S)))
+enough-steps ws budget caller desk W S s e = of-ok (rw e at (again (run-runs ws budget caller desk W S)))
   where
-    again : {c : Ran} → Runs Ends ws budget allowance W S c → Says (SameAgain ws W S c) (λ r p. Unit {0}) (c .answer)
-    again (work-refused w) = says-refused tt
-    again (state-refused w s) = says-refused tt
-    again (unread w s m) = says-refused tt
-    again (ended w s c k q a b l f) =
-        says-ok λ budget′ allowance′ r m.
-        run-answer ws budget′ allowance′ W S (ended w s c k q a b (omega arith) (rests-within f r (omega arith)))
+    again : {c : Ran} → Runs Ends ws budget caller desk W S c → Says (SameAgain ws W S c) (λ r p. Unit {0}) (c .answer)
+    again (caller-refused i) = says-refused tt
+    again (work-refused i w) = says-refused tt
+    again (state-refused i w s) = says-refused tt
+    again (unread i w s m) = says-refused tt
+    again (ended i w s c k q a b l f) =
+        says-ok λ budget′ caller′ desk′ i′ r m.
+        run-answer ws budget′ caller′ desk′ W S (ended i′ w s c k q a b (omega arith) (rests-within f r (omega arith)))
 
 -- The counts of a run that ended add up.
 pub counts-add-up : CountsAddUp
-counts-add-up ws budget allowance W S s e = of-ok (rw e at (adding (run-runs ws budget allowance W S)))
+counts-add-up ws budget caller desk W S s e = of-ok (rw e at (adding (run-runs ws budget caller desk W S)))
   where
-    adding : {c : Ran} → Runs Ends ws budget allowance W S c → Says (λ s. total (s .counts) ≡ s .steps) (λ r p. Unit {0}) (c .answer)
-    adding (work-refused w) = says-refused tt
-    adding (state-refused w s) = says-refused tt
-    adding (unread w s m) = says-refused tt
-    adding (ended w s c k q a b l f) = says-ok a
+    adding : {c : Ran} → Runs Ends ws budget caller desk W S c → Says (λ s. total (s .counts) ≡ s .steps) (λ r p. Unit {0}) (c .answer)
+    adding (caller-refused i) = says-refused tt
+    adding (work-refused i w) = says-refused tt
+    adding (state-refused i w s) = says-refused tt
+    adding (unread i w s m) = says-refused tt
+    adding (ended i w s c k q a b l f) = says-ok a
 
--- How far the numbers of a refusal reach.
-numbers : {ws : List ℕ} {budget allowance : ℕ} {W S : List ℕ} {c : Ran}
-    → Runs Ends ws budget allowance W S c
-    → Says (λ _. Unit {0}) (By 2 9 longest) (c .answer)
+-- How far the numbers and the places of a refusal reach.
+abbrev Turned : Reason → ℕ → Type 0
+Turned r p = (((2 ≤ number r) × (number r ≤ 9)) ⊎ (number r ≡ 21)) × (p ≤ longest)
+
+numbers : {ws : List ℕ} {budget caller : ℕ} {desk : Desk} {W S : List ℕ} {c : Ran}
+    → Runs Ends ws budget caller desk W S c
+    → Says (λ _. Unit {0}) Turned (c .answer)
 unfolding number
-numbers (work-refused w) = says-refused (lit≤ tt, lit≤ tt, zero-le)
-numbers (state-refused w s) = says-refused (lit≤ tt, lit≤ tt, zero-le)
-numbers (unread {r} w s m) = let (l, u, q) = misread-numbers m in says-refused {r = r} (omega arith, u, q)
-numbers (ended w s c k q a b l f) = says-ok tt
+numbers (caller-refused i) = says-refused (inr refl, zero-le)
+numbers (work-refused i w) = says-refused (inl (lit≤ tt, lit≤ tt), zero-le)
+numbers (state-refused i w s) = says-refused (inl (lit≤ tt, lit≤ tt), zero-le)
+numbers (unread {r} i w s m) = let (l, u, q) = misread-numbers m in says-refused {r = r} (inl (omega arith, u), q)
+numbers (ended i w s c k q a b l f) = says-ok tt
 
-pub run-numbers : (ws : List ℕ) (budget allowance : ℕ) (W S : List ℕ)
-    → Says (λ _. Unit {0}) (By 2 9 longest) (run ws budget allowance W S .answer)
-run-numbers ws budget allowance W S = numbers (run-runs ws budget allowance W S)
+pub run-numbers : (ws : List ℕ) (budget caller : ℕ) (desk : Desk) (W S : List ℕ)
+    → Says (λ _. Unit {0}) Turned (run ws budget caller desk W S .answer)
+run-numbers ws budget caller desk W S = numbers (run-runs ws budget caller desk W S)
 
 pub run-refusals : RunRefusals
-run-refusals ws budget allowance W S r p e = let (l, u, q) = of-refused (rw e at (run-numbers ws budget allowance W S)) in (l, u)
+run-refusals ws budget caller desk W S r p e = of-refused (rw e at (run-numbers ws budget caller desk W S)) .0

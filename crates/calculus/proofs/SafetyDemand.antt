@@ -1,6 +1,6 @@
 -- Demand 3. A run of words that a check accepted begins at the term that they are, whose type is the one that the check answered.
 -- Every step keeps the type, so every state has it; hence each is a value or steps, and no run ends stuck.
-use Prim.Native.Nat.{ℕ, _≤_, min}
+use Prim.Native.Nat.{ℕ, _≤_}
 use mathlib.Core.Bool.{true≢false}
 use mathlib.Core.List.{List, []}
 use mathlib.Core.Logic.{⊎-elim, _≢_}
@@ -11,9 +11,9 @@ use Rattle.calculus.specs.Term.{Term, size}
 use Rattle.calculus.specs.Words.{Codes, longest}
 use Rattle.calculus.specs.Rules.{_⊢_⦂_}
 use Rattle.calculus.specs.Run.{State, state-zero, state-suc, End, at-stuck, Ends, ends-value, ends-stuck, ends-spent, ends-long}
-use Rattle.calculus.specs.Outcomes.{Ran, run}
-use Rattle.calculus.specs.Runs.{Runs, work-refused, state-refused, unread, ended}
-use Rattle.calculus.specs.Safety.{Only, Safe, Safely, work-refused as work-refused′, state-refused as state-refused′, ended as ended′, SafeRun, Demand3}
+use Rattle.calculus.specs.Outcomes.{Desk, grant, Ran, run}
+use Rattle.calculus.specs.Runs.{Runs, caller-refused, work-refused, state-refused, unread, ended}
+use Rattle.calculus.specs.Safety.{Only, Safe, Safely, caller-refused as caller-refused′, work-refused as work-refused′, state-refused as state-refused′, ended as ended′, SafeRun, Demand3}
 use Rattle.calculus.proofs.Coding.{words-injective, codes-one}
 use Rattle.calculus.proofs.ReadBack.{coded-not-misread}
 use Rattle.calculus.proofs.Types.{uniqueness}
@@ -49,16 +49,17 @@ state-before {t} k l (state-suc {k = m} {y = y} h s) = on (λ l. state-before k 
     on before (yes l) = before l
     on before (no n) = (y, subst (λ m. State t m y) (omega arith) (state-suc h s))
 
-safely : {ws : List ℕ} {budget allowance : ℕ} {W S : List ℕ} {t τ : Term} {c : Ran}
+safely : {ws : List ℕ} {budget caller : ℕ} {desk : Desk} {W S : List ℕ} {t τ : Term} {c : Ran}
     → Codes ws t
     → [] ⊢ t ⦂ τ
-    → Runs Ends ws budget allowance W S c
-    → Safely t τ (min budget allowance) W S (c .answer)
-safely c d (work-refused w) = work-refused′ w
-safely c d (state-refused w s) = state-refused′ w s
-safely c d (unread w s m) = absurd (coded-not-misread c m)
-safely {t} {τ} c d (ended {E} {n} {t = t′} {x} w s c′ k q a b l f) =
-    ended′ w s last f (not-stuck (state-typed d last) f) states
+    → Runs Ends ws budget caller desk W S c
+    → Safely t τ caller (grant budget caller desk) W S (c .answer)
+safely c d (caller-refused i) = caller-refused′ i
+safely c d (work-refused i w) = work-refused′ i w
+safely c d (state-refused i w s) = state-refused′ i w s
+safely c d (unread i w s m) = absurd (coded-not-misread c m)
+safely {t} {τ} c d (ended {E} {n} {t = t′} {x} i w s c′ k q a b l f) =
+    ended′ i w s last f (not-stuck (state-typed d last) f) states
   where
     one : t′ ≡ t
     one = codes-one c′ c
@@ -74,12 +75,12 @@ safely {t} {τ} c d (ended {E} {n} {t = t′} {x} w s c′ k q a b l f) =
 pub demand3 : Demand3
 demand3 = (runs-safely, λ Γ v τ. canonical)
   where
-    runs-safely : (ws : List ℕ) (budget allowance : ℕ) (W S : List ℕ) → SafeRun ws budget allowance W S (run ws budget allowance W S)
-    runs-safely ws budget allowance W S L W₁ O₁ n e =
+    runs-safely : (ws : List ℕ) (budget caller : ℕ) (desk : Desk) (W S : List ℕ) → SafeRun ws budget caller desk W S (run ws budget caller desk W S)
+    runs-safely ws budget caller desk W S L W₁ O₁ n e =
         let (t, τ, a) = accepted ws L W₁ O₁ n e in (
           t,
           τ,
           (a .coded, λ t′ p. codes-one p (a .coded)),
           (sym (a .front), λ τ′ p. words-injective τ′ τ (p ∙ a .front)),
-          safely (a .coded) (a .typing .typed) (run-runs ws budget allowance W S),
+          safely (a .coded) (a .typing .typed) (run-runs ws budget caller desk W S),
         )

@@ -1,6 +1,6 @@
 -- The table of the starred terms. One test computes a row: it reads the words, infers or runs, and compares with the row's columns. A
 -- row that passes holds, since what the functions answer is what the rules say; and every row of the table passes, by computing.
-use Prim.Native.Nat.{ℕ, zero, suc, _≤_, min}
+use Prim.Native.Nat.{ℕ, zero, suc, _≤_}
 use mathlib.Core.Bool.{Bool, true, false, _&&_, decide}
 use mathlib.Core.List.{List, [], _∷_}
 use mathlib.Core.Path.{_≡_, refl, sym, _∙_, ap, ap₂, subst}
@@ -16,7 +16,7 @@ use Rattle.calculus.specs.Kinds.{Kind, by-substitution, by-unfolding, by
 use Rattle.calculus.specs.Step.{Next, value, stuck, next, under, applied, cancelled, step}
 use Rattle.calculus.specs.Infer.{annotation, same, measure, product, stepped, infer}
 use Rattle.calculus.specs.Run.{State, state-zero, state-suc, End, spent, end-number, Ends, ends-spent, Ended, done, one-more, advance, last-end, run-until, run-from}
-use Rattle.calculus.specs.Outcomes.{largest-limit}
+use Rattle.calculus.specs.Outcomes.{largest-limit, grant}
 use Rattle.calculus.specs.Checks.{Allowed, untyped, typed}
 use Rattle.calculus.specs.Runs.{ended}
 use Rattle.calculus.specs.Starred.{Row, types, refuses, ends, spins, Claim, Claims, starred, StarredTerms}
@@ -181,11 +181,11 @@ ends-claim ws budget E n c out {t} {x} e k o =
       k .last,
       k .counted,
       k .ends,
-      λ allowance W S g l m.
-          let grant : budget ≡ min budget allowance = omega arith in
+      λ caller desk W S i g l m.
+          let given : budget ≡ grant budget caller desk = omega arith in
           rw
           (← o)
-          (run-answer ws budget allowance W S (ended l m w (k .last) (k .counted) (k .adds) (k .bounded) (rw grant at (k .within)) (rw grant at (k .ends)))),
+          (run-answer ws budget caller desk W S (ended i l m w (k .last) (k .counted) (k .adds) (k .bounded) (rw given at (k .within)) (rw given at (k .ends)))),
     )
 
 -- A term that unfolds to itself is each of its states, so every run of it is spent, in unfoldings.
@@ -218,10 +218,10 @@ module _ {t : Term} (s : t ⟶ t) (u : kind s ≡ by-unfolding) where
         t,
         (w, c),
         (s, u),
-        λ budget allowance W S l m.
-            let k = spinning-course (c .short) (min budget allowance) in
-            rw w (run-answer (words t) budget allowance W S
-            (ended l m (refl, c) (k .last) (k .counted) (k .adds) (k .bounded) (k .within) (k .ends))),
+        λ budget caller desk W S i l m.
+            let k = spinning-course (c .short) (grant budget caller desk) in
+            rw w (run-answer (words t) budget caller desk W S
+            (ended i l m (refl, c) (k .last) (k .counted) (k .adds) (k .bounded) (k .within) (k .ends))),
       )
 
 -- A row that passes holds.

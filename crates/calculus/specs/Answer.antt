@@ -3,13 +3,14 @@ use Prim.Native.Nat.{ℕ}
 use mathlib.Core.Bool.{Bool, true, false}
 use mathlib.Core.Path.{_≡_}
 
--- The reasons, in the order of document 01's numbers.
+-- The reasons, in the order of their numbers in documents 01 and 02.
 pub data Reason : Type 0 where
   limit-not-allowed work-short output-short length-not-allowed : Reason
   no-meaning list-ends words-after level-65 unbound : Reason
   not-star not-product wrong-argument no-step wrong-cast wrong-recursion over-limit : Reason
+  caller-not-allowed : Reason
 
--- Document 01's number of each reason.
+-- The number of each reason: document 01's, and 21 of document 02, 2.9.
 unfoldable pub number : Reason → ℕ
 number limit-not-allowed = 1
 number work-short = 2
@@ -27,6 +28,7 @@ number no-step = 13
 number wrong-cast = 14
 number wrong-recursion = 15
 number over-limit = 16
+number caller-not-allowed = 21
 
 -- The numbers tell the reasons apart.
 abbrev pub NumbersApart : Type 0

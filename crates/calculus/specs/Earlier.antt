@@ -8,7 +8,8 @@ use Rattle.calculus.specs.Words.{longest}
 use Rattle.calculus.specs.Rules.{_⟶_, CanStep, Value}
 use Rattle.calculus.specs.Step.{Next}
 use Rattle.calculus.specs.Run.{End, at-value, spent, at-stuck, too-long, run-until}
-use Rattle.calculus.specs.Outcomes.{Ran, run-by}
+use Rattle.calculus.specs.Outcomes.{Desk, alone, Ran, run-by}
+use Rattle.calculus.specs.Outcomes as now
 use Rattle.calculus.specs.Runs.{Runs}
 
 -- Until document 02, 2.2. Document 01: "Ends, tested in this order before each step: 2 spent, steps equal the grant; 1 value; 3 stuck;
@@ -23,10 +24,15 @@ pub data Ends (g n : ℕ) (x : Term) : End → Type 0 where
 unfoldable pub last-end : Next → End
 last-end m = spent
 
-abbrev pub run : List ℕ → ℕ → ℕ → List ℕ → List ℕ → Ran
+abbrev pub run : List ℕ → ℕ → ℕ → Desk → List ℕ → List ℕ → Ran
 run = run-by (run-until last-end)
 
 -- It is the run whose ends are those.
 abbrev pub Demand2-run : Type 0
-Demand2-run = (ws : List ℕ) (budget allowance : ℕ) (W S : List ℕ) (c : Ran)
-    → (run ws budget allowance W S ≡ c) ↔ Runs Ends ws budget allowance W S c
+Demand2-run = (ws : List ℕ) (budget caller : ℕ) (desk : Desk) (W S : List ℕ) (c : Ran)
+    → (run ws budget caller desk W S ≡ c) ↔ Runs Ends ws budget caller desk W S c
+
+-- Until document 02, 2.9. Document 01: "The desk is one 32-bit allowance of steps", and no run named its caller: it is the run of
+-- caller 0 alone at the desk.
+abbrev pub run-alone : List ℕ → ℕ → ℕ → List ℕ → List ℕ → Ran
+run-alone ws budget allowance W S = now.run ws budget 0 (alone allowance) W S

@@ -18,6 +18,7 @@ pub mod Parts
 pub mod Checks
 pub mod Runs
 pub mod Safety
+pub mod Shares
 pub mod Starred
 pub mod MoreLimit
 pub mod Earlier

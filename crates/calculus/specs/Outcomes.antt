@@ -4,9 +4,9 @@ use Prim.Native.Nat.{ℕ, zero, suc, _+_, _-_, _*_, min}
 use mathlib.Core.Bool.{cond, _&&_}
 use mathlib.Core.List.{List, [], _∷_, _++_}
 use lib.Dec.{leb}
-use lib.ListN.{length, take, drop, replicate}
+use lib.ListN.{length, take, drop, replicate, getD, set}
 use Rattle.calculus.specs.Term.{Term, var, star, app, lam, pi, castup, castdown, mu, size}
-use Rattle.calculus.specs.Answer.{Answer, ok, refused, _>>=_, _>>_, require, number, limit-not-allowed, work-short, output-short}
+use Rattle.calculus.specs.Answer.{Answer, ok, refused, _>>=_, _>>_, require, number, limit-not-allowed, work-short, output-short, caller-not-allowed}
 use Rattle.calculus.specs.Words.{words, longest}
 use Rattle.calculus.specs.Scan.{read}
 use Rattle.calculus.specs.Kinds.{Counts}
@@ -57,7 +57,30 @@ checked L W O (refused r p) =
 unfoldable pub check : List ℕ → ℕ → List ℕ → List ℕ → Checked
 check ws L W O = checked L W O (verdict ws L W O)
 
--- A run: its end and its steps, in all and by kind, or the refusal; the allowance left on the desk; and the two lent slices.
+-- "The desk holds eight allowances, and a run names its caller, 0–7" (document 02, 2.9). Here it may hold any number of them.
+abbrev pub Desk : Type 0
+Desk = List ℕ
+
+abbrev pub last-caller : ℕ
+last-caller = 7
+
+-- The desk of caller 0 alone: an allowance for it, and none for the others.
+abbrev pub alone : ℕ → Desk
+alone allowance = allowance ∷ replicate last-caller 0
+
+-- The allowance of a caller, 0 where the desk has none.
+abbrev pub allowance-of : Desk → ℕ → ℕ
+allowance-of desk caller = getD desk caller 0
+
+-- "Only that caller's allowance falls."
+unfoldable pub lowered : Desk → ℕ → ℕ → Desk
+lowered desk caller n = set desk caller (allowance-of desk caller - n)
+
+-- "The grant is the smaller of budget and allowance", which is the caller's.
+abbrev pub grant : ℕ → ℕ → Desk → ℕ
+grant budget caller desk = min budget (allowance-of desk caller)
+
+-- A run: its end and its steps, in all and by kind, or the refusal; the desk; and the two lent slices.
 pub record Stop : Type 0 where
   pub end : End
   pub steps : ℕ
@@ -66,34 +89,36 @@ pub record Stop : Type 0 where
 -- "The run answers its end, the steps taken and the desk with the allowance lowered by exactly those steps."
 pub record Ran : Type 0 where
   pub answer : Answer Stop
-  pub allowance : ℕ
+  pub desk : Desk
   pub work : List ℕ
   pub state : List ℕ
 
--- The refusals in document 01's order, and otherwise the run within the grant, which `go` is.
-unfoldable pub course : (ℕ → Term → Ended) → List ℕ → ℕ → List ℕ → List ℕ → Answer Ended
-course go ws grant W S = do
+-- "21 a caller above 7, place 0, tested before all others", the refusals in document 01's order, and otherwise the run within the
+-- grant `g`, which `go` is.
+unfoldable pub course : (ℕ → Term → Ended) → List ℕ → ℕ → ℕ → List ℕ → List ℕ → Answer Ended
+course go ws g caller W S = do
+  require caller-not-allowed 0 (leb caller last-caller)
   require work-short 0 (leb run-room (length W))
   require output-short 0 (leb longest (length S))
   t ← read ws
-  ok (go grant t)
+  ok (go g t)
 
 -- "The desk with the allowance lowered by exactly those steps. [...] A refused call leaves output, state and desk unchanged."
-unfoldable pub ran : ℕ → List ℕ → List ℕ → Answer Ended → Ran
-ran allowance W S (ok e) =
+unfoldable pub ran : ℕ → Desk → List ℕ → List ℕ → Answer Ended → Ran
+ran caller desk W S (ok e) =
     record {
       answer = ok (record { end = e .end; steps = e .steps; counts = e .counts });
-      allowance = allowance - e .steps;
+      desk = lowered desk caller (e .steps);
       work = cleared run-room W;
       state = begun (words (e .state)) S;
     }
-ran allowance W S (refused r p) = record { answer = refused r p; allowance = allowance; work = W; state = S }
+ran caller desk W S (refused r p) = record { answer = refused r p; desk = desk; work = W; state = S }
 
--- "The grant is the smaller of budget and allowance."
-unfoldable pub run-by : (ℕ → Term → Ended) → List ℕ → ℕ → ℕ → List ℕ → List ℕ → Ran
-run-by go ws budget allowance W S = ran allowance W S (course go ws (min budget allowance) W S)
+-- A run: its course, and what it leaves on the desk and in the slices.
+unfoldable pub run-by : (ℕ → Term → Ended) → List ℕ → ℕ → ℕ → Desk → List ℕ → List ℕ → Ran
+run-by go ws budget caller desk W S = ran caller desk W S (course go ws (grant budget caller desk) caller W S)
 
-abbrev pub run : List ℕ → ℕ → ℕ → List ℕ → List ℕ → Ran
+abbrev pub run : List ℕ → ℕ → ℕ → Desk → List ℕ → List ℕ → Ran
 run = run-by run-from
 
 -- A part lookup as a function: where the part stands in the caller's own words. "For a list that is no closed term, and for a part

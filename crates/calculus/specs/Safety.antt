@@ -1,16 +1,16 @@
--- DEMAND 3 as one type over words, limits, budgets, desks and slices.
-use Prim.Native.Nat.{ℕ, _≤_, _<_, min}
+-- DEMAND 3 as one type over words, limits, budgets, callers, desks and slices.
+use Prim.Native.Nat.{ℕ, _≤_, _<_}
 use mathlib.Core.List.{List, []}
 use mathlib.Core.Path.{_≡_}
 use mathlib.Core.Logic.{_↔_, _≢_, _⊎_}
 use lib.ListN.{length, take}
 use Rattle.calculus.specs.Term.{Term, star, lam, pi, castup, size}
-use Rattle.calculus.specs.Answer.{Answer, ok, refused, work-short, output-short}
+use Rattle.calculus.specs.Answer.{Answer, ok, refused, work-short, output-short, caller-not-allowed}
 use Rattle.calculus.specs.Words.{words, Codes, longest}
 use Rattle.calculus.specs.Rules.{Context, _⟶_, CanStep, Value, _⊢_⦂_}
 use Rattle.calculus.specs.Kinds.{Counts}
 use Rattle.calculus.specs.Run.{State, End, at-stuck, Ends}
-use Rattle.calculus.specs.Outcomes.{run-room, check, Ran, Stop, run}
+use Rattle.calculus.specs.Outcomes.{run-room, check, Desk, last-caller, grant, Ran, Stop, run}
 
 -- The one element that has a property.
 abbrev pub Only : (Term → Type 0) → Term → Type 0
@@ -23,22 +23,23 @@ pub record Safe (τ x : Term) : Type 0 where
   pub progress : (Value x × ¬ CanStep x) ⊎ (¬ Value x × ((y : Term) × Only (λ z. x ⟶ z) y))
 
 -- What a run answers that begins at `t`, whose type a check answered to be τ. "A refused run has no states and no end"; here it is
--- refused only for a short slice. "So the run ends only at a value, with its grant used, or before a state over 1,024 words": by
+-- refused only for its caller or a short slice. "So the run ends only at a value, with its grant used, or before a state over 1,024 words": by
 -- `Ends`, with its grant used at a state that can step.
-pub data Safely (t τ : Term) (grant : ℕ) (W S : List ℕ) : Answer Stop → Type 0 where
-  work-refused : length W < run-room → Safely t τ grant W S (refused work-short 0)
-  state-refused : run-room ≤ length W → length S < longest → Safely t τ grant W S (refused output-short 0)
-  ended : {E : End} {n : ℕ} {c : Counts} {x : Term} → run-room ≤ length W → longest ≤ length S
-      → State t n x → Ends grant n x E → E ≢ at-stuck
+pub data Safely (t τ : Term) (caller g : ℕ) (W S : List ℕ) : Answer Stop → Type 0 where
+  caller-refused : last-caller < caller → Safely t τ caller g W S (refused caller-not-allowed 0)
+  work-refused : caller ≤ last-caller → length W < run-room → Safely t τ caller g W S (refused work-short 0)
+  state-refused : caller ≤ last-caller → run-room ≤ length W → length S < longest → Safely t τ caller g W S (refused output-short 0)
+  ended : {E : End} {n : ℕ} {c : Counts} {x : Term} → caller ≤ last-caller → run-room ≤ length W → longest ≤ length S
+      → State t n x → Ends g n x E → E ≢ at-stuck
       → ((k : ℕ) → k ≤ n → (y : Term) × Only (State t k) y × (size y ≤ longest) × Safe τ y)
-      → Safely t τ grant W S (ok (record { end = E; steps = n; counts = c }))
+      → Safely t τ caller g W S (ok (record { end = E; steps = n; counts = c }))
 
 -- Demand 3 of one run `r`: for every check that accepts the words, at any allowed limit.
-abbrev pub SafeRun : List ℕ → ℕ → ℕ → List ℕ → List ℕ → Ran → Type 0
-SafeRun ws budget allowance W S r = (L : ℕ) (W₁ O₁ : List ℕ) (n : ℕ)
+abbrev pub SafeRun : List ℕ → ℕ → ℕ → Desk → List ℕ → List ℕ → Ran → Type 0
+SafeRun ws budget caller desk W S r = (L : ℕ) (W₁ O₁ : List ℕ) (n : ℕ)
     → check ws L W₁ O₁ .answer ≡ ok n
     → (t : Term) × (τ : Term) × Only (Codes ws) t × Only (λ τ′. words τ′ ≡ take n (check ws L W₁ O₁ .output)) τ
-    × Safely t τ (min budget allowance) W S (r .answer)
+    × Safely t τ caller (grant budget caller desk) W S (r .answer)
 
 -- `Is pi e`: the node of `e` is a product; likewise `Is lam e` and `Is castup e`.
 abbrev pub Is : (Term → Term → Term) → Term → Type 0
@@ -54,5 +55,5 @@ pub record Canonical (v τ : Term) : Type 0 where
 -- "For every term that a check accepts at any allowed limit, and every run begun at it, whatever budget, desk and slices that run is
 -- given"; and the canonical forms, in every context.
 abbrev pub Demand3 : Type 0
-Demand3 = ((ws : List ℕ) (budget allowance : ℕ) (W S : List ℕ) → SafeRun ws budget allowance W S (run ws budget allowance W S))
+Demand3 = ((ws : List ℕ) (budget caller : ℕ) (desk : Desk) (W S : List ℕ) → SafeRun ws budget caller desk W S (run ws budget caller desk W S))
     × ((Γ : Context) (v τ : Term) → Value v → Γ ⊢ v ⦂ τ → Canonical v τ)

@@ -1,7 +1,7 @@
 -- The starred terms of document 01 ("Terms at the edges"), in one table, with what each row claims, stated in the rules and in the
 -- outcomes for all long enough slices. Further rows use what the starred terms leave out, so that every node, every rule, each of the
 -- refusals 10–16 and every end stands in the table.
-use Prim.Native.Nat.{ℕ, _≤_, _-_, min}
+use Prim.Native.Nat.{ℕ, _≤_}
 use mathlib.Core.List.{List, [], _∷_, _++_}
 use mathlib.Core.Path.{_≡_}
 use mathlib.Core.Logic.{_≢_}
@@ -14,7 +14,7 @@ use Rattle.calculus.specs.Kinds.{by-unfolding, kind, Counts, counts, Cou
 use Rattle.calculus.specs.Limit.{_⊢⟨_⟩_⦂_}
 use Rattle.calculus.specs.Failing.{Fails}
 use Rattle.calculus.specs.Run.{State, End, at-value, at-stuck, spent, too-long, Ends}
-use Rattle.calculus.specs.Outcomes.{check-room, run-room, begun, cleared, check, run}
+use Rattle.calculus.specs.Outcomes.{check-room, run-room, begun, cleared, check, Desk, last-caller, allowance-of, lowered, grant, run}
 
 -- A row of the table.
 pub data Row : Type 0 where
@@ -37,18 +37,19 @@ Claim (refuses ws L r p) = (t : Term) × Codes ws t × Fails L [] 0 t r p
     → check ws L W O ≡ record { answer = refused r p; work = cleared (check-room L) W; output = O })
 Claim (ends ws budget E n c out) =
     (t : Term) × (x : Term) × Codes ws t × (out ≡ words x) × State t n x × Counted t c x × Ends budget n x E
-    × ((allowance : ℕ) (W S : List ℕ) → budget ≤ allowance → run-room ≤ length W → longest ≤ length S
-    → run ws budget allowance W S ≡ record {
+    × ((caller : ℕ) (desk : Desk) (W S : List ℕ)
+    → caller ≤ last-caller → budget ≤ allowance-of desk caller → run-room ≤ length W → longest ≤ length S
+    → run ws budget caller desk W S ≡ record {
       answer = ok (record { end = E; steps = n; counts = c });
-      allowance = allowance - n;
+      desk = lowered desk caller n;
       work = cleared run-room W;
       state = begun out S;
     })
 Claim (spins ws) = (t : Term) × Codes ws t × ((s : t ⟶ t) × (kind s ≡ by-unfolding))
-    × ((budget allowance : ℕ) (W S : List ℕ) → run-room ≤ length W → longest ≤ length S
-    → run ws budget allowance W S ≡ record {
-      answer = ok (record { end = spent; steps = min budget allowance; counts = counts 0 (min budget allowance) 0 });
-      allowance = allowance - min budget allowance;
+    × ((budget caller : ℕ) (desk : Desk) (W S : List ℕ) → caller ≤ last-caller → run-room ≤ length W → longest ≤ length S
+    → run ws budget caller desk W S ≡ record {
+      answer = ok (record { end = spent; steps = grant budget caller desk; counts = counts 0 (grant budget caller desk) 0 });
+      desk = lowered desk caller (grant budget caller desk);
       work = cleared run-room W;
       state = begun ws S;
     })

@@ -53,9 +53,9 @@ answer-of-injective (ran.Refused f) (ran.Refused g) e =
 pub ran-of-injective : (r s : Outcome) {W W′ S S′ : List ℕ} → ran-of r W S ≡ ran-of s W′ S′ → (r ≡ s) × (W ≡ W′) × (S ≡ S′)
 ran-of-injective r s e = (
   ap₂
-      (λ a n. record { answer = a; desk = record { allowance = n } })
+      (λ a n. record { answer = a; desk = record { allowances = n } })
       (answer-of-injective (r .answer) (s .answer) (ap (λ c. c .answer) e))
-      (ap (λ c. c .allowance) e),
+      (ap (λ c. c .desk) e),
   ap (λ c. c .work) e,
   ap (λ c. c .state) e,
 )

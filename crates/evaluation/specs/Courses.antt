@@ -1,5 +1,5 @@
 -- What the inner functions of a run answer and leave in the slices.
-use Prim.Native.Nat.{ℕ, _-_, _≤_, _<_}
+use Prim.Native.Nat.{ℕ, _≤_, _<_}
 use mathlib.Core.List.{List}
 use mathlib.Core.Path.{_≡_}
 use lib.ListN.{length, take, drop}
@@ -54,11 +54,11 @@ pub record Performs (e : Ended) (work : List ℕ) (r : Course) (after : List ℕ
   pub behind : drop longest after ≡ drop longest work
 
 -- What a run that ended leaves.
-abbrev pub ended : End → Steps → ℕ → List ℕ → List ℕ → outcomes.Ran
-ended e s allowance work state =
+abbrev pub ended : End → Steps → ℕ → outcomes.Desk → List ℕ → List ℕ → outcomes.Ran
+ended e s caller desk work state =
     record {
       answer = ok (record { end = e; steps = s .total; counts = counts-of s });
-      allowance = allowance - s .total;
+      desk = outcomes.lowered desk caller (s .total);
       work = outcomes.cleared outcomes.run-room work;
       state = state;
     }

@@ -28,4 +28,4 @@ answer-of (ran.Ended e s) = ok (record { end = end-of e; steps = s .total; count
 answer-of (ran.Refused r) = refused (reason-of (r .reason)) (r .place)
 
 abbrev pub ran-of : Outcome → List ℕ → List ℕ → outcomes.Ran
-ran-of r work state = record { answer = answer-of (r .answer); allowance = r .desk .allowance; work = work; state = state }
+ran-of r work state = record { answer = answer-of (r .answer); desk = r .desk .allowances; work = work; state = state }

@@ -1,4 +1,4 @@
-// Runs (document 01, Calls): a closed term stepped within a grant, and the desk from which the steps are taken.
+// Runs (document 01, Calls): a closed term stepped within a grant, and the desk from which the steps are taken (document 02, 2.9).
 use reduction::clearing::clear;
 use reduction::copying::copy;
 use reduction::stepping::Kind;
@@ -15,18 +15,54 @@ ghost use Prim.Native.Nat.{_+_, _≤_, _<_};
 ghost use lib.ListN.{length, take};
 ghost use Rattle.calculus.specs.Term.{Term};
 ghost use Rattle.calculus.specs.Words.{Readable, words, longest};
+ghost use Rattle.calculus.specs.Answer.{refused};
 ghost use Rattle.calculus.specs.Kinds.{counting};
 ghost use Rattle.calculus.specs.Step as calculus;
 ghost use Rattle.calculus.specs.Run.{last-end, run-from};
-ghost use Rattle.calculus.specs.Outcomes.{begun, run, run-room};
+ghost use Rattle.calculus.specs.Outcomes.{allowance-of, alone, begun, last-caller, lowered, run, run-room};
 ghost use Rattle.calculus.specs.Safety.{SafeRun};
+ghost use Rattle.term.specs.Reasons.{reason-of};
 ghost use Rattle.reduction.specs.Stepping.{Coded, kind-of};
 ghost use Rattle.evaluation.specs.Courses.{AddUp, Advances, Holds, Performs, ended};
-ghost use Rattle.evaluation.specs.Outcomes.{counts-of, end-of, ran-of};
+ghost use Rattle.evaluation.specs.Outcomes.{answer-of, counts-of, end-of, ran-of};
 
-// The desk of document 01: one allowance of steps.
+// An allowance of steps for each of the eight callers.
+#[repr(C)]
 pub struct Desk {
-    pub allowance: u32,
+    pub allowances: [u32; 8],
+}
+
+impl Desk {
+    // The desk of caller 0 alone: an allowance for it, and none for the others.
+    pub fn alone(allowance: u32) -> Self
+        ensures { λ r. ⌜ r ≡ record { allowances = alone allowance } ⌝ }
+    {
+        Desk {
+            allowances: [allowance, 0, 0, 0, 0, 0, 0, 0],
+        }
+    }
+
+    // The allowance of a caller, 0 where the desk has none.
+    pub fn allowance_of(self, caller: u32) -> u32
+        ensures { λ r. ⌜ r ≡ allowance-of (self .allowances) caller ⌝ }
+    {
+        let at = caller as usize;
+        let allowances = self.allowances;
+        if at < 8 {
+            return allowances[at];
+        }
+        0
+    }
+
+    // The desk with the steps of a caller taken from its allowance, and the other seven as they were.
+    fn lowered(mut self, caller: u32, steps: u32) -> Self
+        requires { ⌜ (caller ≤ last-caller) × (steps ≤ allowance-of (self .allowances) caller) ⌝ }
+        ensures { λ r. ⌜ r .allowances ≡ lowered (self .allowances) caller steps ⌝ }
+    {
+        let at = caller as usize;
+        self.allowances[at] -= steps;
+        self
+    }
 }
 
 // The ends of a run, in the order of document 01's numbers.
@@ -163,10 +199,11 @@ fn perform(term: &[u16], grant: u32, work: &mut [u16]) -> Course
     }
 }
 
-// Hands over the state that a run reached, clears the working slice and lowers the allowance.
-fn settle(course: Course, work: &mut [u16], state: &mut [u16], desk: Desk) -> Outcome
-    requires { ⌜ (run-room ≤ length (now work)) × (longest ≤ length (now state)) × (course .steps .total ≤ desk .allowance) × ((x : Term) × Holds (now work) (course .length) x) ⌝ }
-    ensures { λ r. ⌜ ((x : Term) → Holds (now (work .entry)) (course .length) x → ran-of r (now (work .exit)) (now (state .exit)) ≡ ended (end-of (course .end)) (course .steps) (desk .allowance) (now (work .entry)) (begun (words x) (now (state .entry)))) ⌝ }
+// Hands over the state that a run reached, clears the working slice and lowers the caller's allowance.
+fn settle(course: Course, work: &mut [u16], state: &mut [u16], caller: u32, desk: Desk) -> Outcome
+    requires { ⌜ (run-room ≤ length (now work)) × (longest ≤ length (now state)) × ((x : Term) × Holds (now work) (course .length) x) ⌝ }
+    requires { ⌜ (caller ≤ last-caller) × (course .steps .total ≤ allowance-of (desk .allowances) caller) ⌝ }
+    ensures { λ r. ⌜ ((x : Term) → Holds (now (work .entry)) (course .length) x → ran-of r (now (work .exit)) (now (state .exit)) ≡ ended (end-of (course .end)) (course .steps) caller (desk .allowances) (now (work .entry)) (begun (words x) (now (state .entry)))) ⌝ }
 {
     let count = course.length;
     let end = course.end;
@@ -175,46 +212,51 @@ fn settle(course: Course, work: &mut [u16], state: &mut [u16], desk: Desk) -> Ou
     clear(work, 8);
     Outcome {
         answer: Ran::Ended(end, steps),
-        desk: Desk {
-            allowance: desk.allowance - steps.total,
-        },
+        desk: desk.lowered(caller, steps.total),
     }
 }
 
-// A run of document 01.
-pub fn run(term: &[u16], budget: u32, work: &mut [u16], state: &mut [u16], desk: Desk) -> Outcome
-    ensures outcome { λ r. ⌜ ran-of r (now (work .exit)) (now (state .exit)) ≡ run (now (term .entry)) budget (desk .allowance) (now (work .entry)) (now (state .entry)) ⌝ }
-    ensures safety { λ r. ⌜ SafeRun (now (term .entry)) budget (desk .allowance) (now (work .entry)) (now (state .entry)) (ran-of r (now (work .exit)) (now (state .exit))) ⌝ }
+// A refusal leaves the desk as it was.
+fn refused(reason: Reason, place: usize, desk: Desk) -> Outcome
+    ensures { λ r. ⌜ (answer-of (r .answer) ≡ refused (reason-of reason) place) × (r .desk ≡ desk) ⌝ }
 {
+    Outcome {
+        answer: Ran::Refused(Refusal { reason, place }),
+        desk,
+    }
+}
+
+// A run of document 01, for one of the callers of the desk.
+pub fn run(
+    term: &[u16],
+    budget: u32,
+    work: &mut [u16],
+    state: &mut [u16],
+    caller: u32,
+    desk: Desk,
+) -> Outcome
+    ensures outcome { λ r. ⌜ ran-of r (now (work .exit)) (now (state .exit)) ≡ run (now (term .entry)) budget caller (desk .allowances) (now (work .entry)) (now (state .entry)) ⌝ }
+    ensures safety { λ r. ⌜ SafeRun (now (term .entry)) budget caller (desk .allowances) (now (work .entry)) (now (state .entry)) (ran-of r (now (work .exit)) (now (state .exit))) ⌝ }
+{
+    if 7 < caller {
+        return refused(Reason::CallerNotAllowed, 0, desk);
+    }
     if work.len() < 4096 {
-        return Outcome {
-            answer: Ran::Refused(Refusal {
-                reason: Reason::WorkShort,
-                place: 0,
-            }),
-            desk,
-        };
+        return refused(Reason::WorkShort, 0, desk);
     }
     if state.len() < 1024 {
-        return Outcome {
-            answer: Ran::Refused(Refusal {
-                reason: Reason::OutputShort,
-                place: 0,
-            }),
-            desk,
-        };
+        return refused(Reason::OutputShort, 0, desk);
     }
     if let Reading::Refused(refusal) = read(term) {
-        return Outcome {
-            answer: Ran::Refused(refusal),
-            desk,
-        };
+        let reason = refusal.reason;
+        return refused(reason, refusal.place, desk);
     }
-    let grant = if budget < desk.allowance {
+    let allowance = desk.allowance_of(caller);
+    let grant = if budget < allowance {
         budget
     } else {
-        desk.allowance
+        allowance
     };
     let course = perform(term, grant, work);
-    settle(course, work, state, desk)
+    settle(course, work, state, caller, desk)
 }

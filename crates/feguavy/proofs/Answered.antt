@@ -49,9 +49,9 @@ module _ (ws : List ℕ) (L : ℕ) (W₀ O₀ : List ℕ) (r : Checked) {W O : L
 
 -- A run.
 module _ {c : calculus.Ran} (r : Outcome) {W S : List ℕ} (e : ran-of r W S ≡ c) where
-  numbered-run : Numbered-run c (ran-numbers (run.answer-of (r .answer)) (r .desk .allowance)) W S
+  numbered-run : Numbered-run c (ran-numbers (run.answer-of (r .answer)) (r .desk .allowances)) W S
   numbered-run =
-      record { numbers = ap (λ x. ran-numbers (x .answer) (x .allowance)) e; work = ap (λ x. x .work) e; state = ap (λ x. x .state) e }
+      record { numbers = ap (λ x. ran-numbers (x .answer) (x .desk)) e; work = ap (λ x. x .work) e; state = ap (λ x. x .state) e }
 
   pub ended-numbers : (E : End) (s : Steps) (m : ℕ)
       → r .answer ≡ ran.Ended E s
@@ -65,7 +65,7 @@ module _ {c : calculus.Ran} (r : Outcome) {W S : List ℕ} (e : ran-of r W S ≡
         substitutions = s .substitutions;
         unfoldings = s .unfoldings;
         cancellations = s .cancellations;
-        allowance = r .desk .allowance;
+        desk = r .desk;
       })
       W S
   unfolding ran-numbers
@@ -83,14 +83,14 @@ module _ {c : calculus.Ran} (r : Outcome) {W S : List ℕ} (e : ran-of r W S ≡
         substitutions = 0;
         unfoldings = 0;
         cancellations = 0;
-        allowance = r .desk .allowance;
+        desk = r .desk;
       })
       W S
   unfolding ran-numbers
   unrun-numbers f m h k = rw k (rw h at numbered-run)
 
-pub unrun-place : (ws : List ℕ) (budget allowance : ℕ) (W₀ S₀ : List ℕ) (r : Outcome) {W S : List ℕ}
-    → ran-of r W S ≡ calculus.run ws budget allowance W₀ S₀
+pub unrun-place : (ws : List ℕ) (budget caller : ℕ) (desk : calculus.Desk) (W₀ S₀ : List ℕ) (r : Outcome) {W S : List ℕ}
+    → ran-of r W S ≡ calculus.run ws budget caller desk W₀ S₀
     → (f : Refusal) → r .answer ≡ ran.Refused f → f .place ≤ longest
-unrun-place ws budget allowance W₀ S₀ r e f h =
-    of-refused (rw (sym (ap (λ x. x .answer) e) ∙ ap run.answer-of h) at (run-numbers ws budget allowance W₀ S₀)) .2
+unrun-place ws budget caller desk W₀ S₀ r e f h =
+    of-refused (rw (sym (ap (λ x. x .answer) e) ∙ ap run.answer-of h) at (run-numbers ws budget caller desk W₀ S₀)) .1

@@ -22,18 +22,18 @@ checked-numbers-injective (refused r p) (ok n) e = absurd (number-not-zero r (ap
 checked-numbers-injective (refused r p) (refused s q) e =
     ap₂ refused (number-injective r s (ap (λ x. x .answer) e)) (ap (λ x. x .place) e)
 
-pub ran-numbers-injective : (a b : Answer Stop) (m n : ℕ) → ran-numbers a m ≡ ran-numbers b n → (a ≡ b) × (m ≡ n)
+pub ran-numbers-injective : (a b : Answer Stop) (m n : calculus.Desk) → ran-numbers a m ≡ ran-numbers b n → (a ≡ b) × (m ≡ n)
 unfolding ran-numbers
 ran-numbers-injective (ok s) (ok t) m n e =
     let same = end-number-injective (s .end) (t .end) (ap (λ x. x .end) e) in
     let of-numbers : End → RanNumbers → Answer Stop =
     λ E x. ok (record { end = E; steps = x .steps; counts = counts (x .substitutions) (x .unfoldings) (x .cancellations) })
     in
-    (ap₂ of-numbers same e, ap (λ x. x .allowance) e)
+    (ap₂ of-numbers same e, ap (λ x. x .desk .allowances) e)
 ran-numbers-injective (ok s) (refused r p) m n e = absurd (number-not-zero r (ap (λ x. x .answer) (sym e)))
 ran-numbers-injective (refused r p) (ok s) m n e = absurd (number-not-zero r (ap (λ x. x .answer) e))
 ran-numbers-injective (refused r p) (refused s q) m n e =
-    (ap₂ refused (number-injective r s (ap (λ x. x .answer) e)) (ap (λ x. x .place) e), ap (λ x. x .allowance) e)
+    (ap₂ refused (number-injective r s (ap (λ x. x .answer) e)) (ap (λ x. x .place) e), ap (λ x. x .desk .allowances) e)
 
 pub numbered-check-one : {c d : calculus.Checked} {r : CheckedNumbers} {W O : List ℕ}
     → Numbered-check c r W O
@@ -47,9 +47,9 @@ numbered-check-one {c} {d} x y =
 
 pub numbered-run-one : {c d : calculus.Ran} {r : RanNumbers} {W S : List ℕ} → Numbered-run c r W S → Numbered-run d r W S → c ≡ d
 numbered-run-one {c} {d} x y =
-    let same = ran-numbers-injective (c .answer) (d .answer) (c .allowance) (d .allowance) (sym (x .numbers) ∙ y .numbers) in
+    let same = ran-numbers-injective (c .answer) (d .answer) (c .desk) (d .desk) (sym (x .numbers) ∙ y .numbers) in
     ap₂
-    (λ (a : Answer Stop × ℕ) (s : List ℕ × List ℕ). record { answer = a .0; allowance = a .1; work = s .0; state = s .1 })
+    (λ (a : Answer Stop × calculus.Desk) (s : List ℕ × List ℕ). record { answer = a .0; desk = a .1; work = s .0; state = s .1 })
     (ap₂ (λ a n. (a, n)) (same .0) (same .1))
     (ap₂ (λ w o. (w, o)) (sym (x .work) ∙ y .work) (sym (x .state) ∙ y .state))
 

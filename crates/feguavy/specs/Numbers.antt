@@ -1,4 +1,4 @@
--- Document 01's numbers for the outcomes of the calls, as the structs of C and Rust hold them.
+-- The numbers of documents 01 and 02 for the outcomes of the calls, as the structs of C and Rust hold them.
 use Prim.Native.Nat.{ℕ}
 use mathlib.Core.List.{List}
 use mathlib.Core.Path.{_≡_}
@@ -19,8 +19,8 @@ pub record Numbered-check (c : calculus.Checked) (r : CheckedNumbers) (W O : Lis
   pub work : W ≡ c .work
   pub output : O ≡ c .output
 
--- A run: 0, 0, the end and the steps, in all and by kind, or the number of the refusal, its place and 0s; and the allowance left.
-unfoldable pub ran-numbers : Answer calculus.Stop → ℕ → RanNumbers
+-- A run: 0, 0, the end and the steps, in all and by kind, or the number of the refusal, its place and 0s; and the desk.
+unfoldable pub ran-numbers : Answer calculus.Stop → calculus.Desk → RanNumbers
 ran-numbers (ok s) left =
     record {
       answer = 0;
@@ -30,7 +30,7 @@ ran-numbers (ok s) left =
       substitutions = s .counts .substitutions;
       unfoldings = s .counts .unfoldings;
       cancellations = s .counts .cancellations;
-      allowance = left;
+      desk = record { allowances = left };
     }
 ran-numbers (refused r p) left =
     record {
@@ -41,11 +41,11 @@ ran-numbers (refused r p) left =
       substitutions = 0;
       unfoldings = 0;
       cancellations = 0;
-      allowance = left;
+      desk = record { allowances = left };
     }
 
 pub record Numbered-run (c : calculus.Ran) (r : RanNumbers) (W S : List ℕ) : Type 0 where
-  pub numbers : r ≡ ran-numbers (c .answer) (c .allowance)
+  pub numbers : r ≡ ran-numbers (c .answer) (c .desk)
   pub work : W ≡ c .work
   pub state : S ≡ c .state
 

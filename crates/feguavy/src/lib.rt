@@ -1,4 +1,4 @@
-// The calls `check`, `run` and `part` for C and Rust. Numbers are those of document 01.
+// The calls `check`, `run` and `part` for C and Rust. Numbers are those of documents 01 and 02.
 use evaluation::Desk;
 use evaluation::End;
 use evaluation::Ran;
@@ -23,8 +23,8 @@ pub struct CheckedNumbers {
     pub length: u32,
 }
 
-// The answer of a run: 0 with its end and its steps, in all and by kind, or the number of the refusal and its place; and the
-// allowance left.
+// The answer of a run: 0 with its end and its steps, in all and by kind, or the number of the refusal and its place; and the desk
+// after it.
 #[repr(C)]
 pub struct RanNumbers {
     pub answer: u32,
@@ -34,7 +34,7 @@ pub struct RanNumbers {
     pub substitutions: u32,
     pub unfoldings: u32,
     pub cancellations: u32,
-    pub allowance: u32,
+    pub desk: Desk,
 }
 
 // Where a part stands: 0, 0 where there is none.
@@ -44,7 +44,7 @@ pub struct FoundNumbers {
     pub length: usize,
 }
 
-// Document 01's number of a reason.
+// The number of a reason.
 fn number(reason: Reason) -> u32
     ensures { λ r. ⌜ r ≡ number-of reason ⌝ }
 {
@@ -65,6 +65,7 @@ fn number(reason: Reason) -> u32
         Reason::WrongCast => 14,
         Reason::WrongRecursion => 15,
         Reason::OverLimit => 16,
+        Reason::CallerNotAllowed => 21,
     }
 }
 
@@ -112,13 +113,14 @@ pub extern "C" fn feguavy_run(
     budget: u32,
     work: &mut [u16],
     state: &mut [u16],
-    allowance: u32,
+    caller: u32,
+    desk: Desk,
 ) -> RanNumbers
-    ensures outcome { λ r. ⌜ Numbered-run (calculus.run (now (term .entry)) budget allowance (now (work .entry)) (now (state .entry))) r (now (work .exit)) (now (state .exit)) ⌝ }
-    ensures safety { λ r. ⌜ ((c : calculus.Ran) × Numbered-run c r (now (work .exit)) (now (state .exit)) × SafeRun (now (term .entry)) budget allowance (now (work .entry)) (now (state .entry)) c) ⌝ }
+    ensures outcome { λ r. ⌜ Numbered-run (calculus.run (now (term .entry)) budget caller (desk .allowances) (now (work .entry)) (now (state .entry))) r (now (work .exit)) (now (state .exit)) ⌝ }
+    ensures safety { λ r. ⌜ ((c : calculus.Ran) × Numbered-run c r (now (work .exit)) (now (state .exit)) × SafeRun (now (term .entry)) budget caller (desk .allowances) (now (work .entry)) (now (state .entry)) c) ⌝ }
 {
-    let outcome = run(term, budget, work, state, Desk { allowance });
-    let left = outcome.desk.allowance;
+    let outcome = run(term, budget, work, state, caller, desk);
+    let left = outcome.desk;
     let answer = outcome.answer;
     match answer {
         Ran::Ended(end, steps) => RanNumbers {
@@ -129,7 +131,7 @@ pub extern "C" fn feguavy_run(
             substitutions: steps.substitutions,
             unfoldings: steps.unfoldings,
             cancellations: steps.cancellations,
-            allowance: left,
+            desk: left,
         },
         Ran::Refused(refusal) => {
             let reason = refusal.reason;
@@ -141,7 +143,7 @@ pub extern "C" fn feguavy_run(
                 substitutions: 0,
                 unfoldings: 0,
                 cancellations: 0,
-                allowance: left,
+                desk: left,
             }
         }
     }

@@ -1,5 +1,6 @@
 // Modules in files: one path a line in, one answer a line out, a tab and the path behind it. The arguments are a request of `batch`
-// without its bar and its words: `modules check LIMIT`, `modules run BUDGET ALLOWANCE`, `modules part K`.
+// without its bar and its words: `modules check LIMIT`, `modules run BUDGET ALLOWANCE`, `modules kinds BUDGET ALLOWANCE`,
+// `modules part NUMBER`.
 use libc::STDERR_FILENO;
 use libc::STDIN_FILENO;
 use protocol::answer;
@@ -97,7 +98,7 @@ fn replied(
     work: &mut [u16],
     out: &mut [u8],
 ) -> Output {
-    let ready = before.ready_for(request, out);
+    let ready = before.ready_for(answer::granted(request), out);
     if ready.error != 0 {
         return ready;
     }
@@ -311,7 +312,7 @@ fn asked(words: &mut [u16]) -> Request {
         now = with_argument(now, i, words);
         i += 1;
     }
-    now.fed(b'|', words).ended(words)
+    now.fed(b'|', words)
 }
 
 fn main() {
@@ -320,7 +321,7 @@ fn main() {
     if !answer::proper(request) {
         streams::write_all(
             STDERR_FILENO,
-            b"modules: check LIMIT, run BUDGET ALLOWANCE or part K, and paths on standard input\n",
+            b"modules: check LIMIT, run BUDGET ALLOWANCE, kinds BUDGET ALLOWANCE or part NUMBER, and paths on standard input\n",
         );
         return;
     }

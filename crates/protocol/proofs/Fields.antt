@@ -1,10 +1,12 @@
 -- What a function answers about a line is what the definition of its step says: each test of the code decides a test of the definition.
 use Prim.Native.Nat.{ℕ, _+_, _*_, _%_, _≤_, _<_}
+use mathlib.Core.Bool.{true, false}
 use mathlib.Core.List.{List}
 use mathlib.Core.Path.{_≡_, refl}
+use lib.Dec.{eqb}
 use lib.ListN.{length, set}
 use borrow.Author.Tests.{eq-eqb, ne-eqb, lt-ltb, le-ltb}
-use Rattle.protocol.specs.Requests.{known, reading, keeping, refused, letter, digit, number, Line, line-of, word, field-end, barred, finished}
+use Rattle.protocol.specs.Requests.{known, reading, keeping, refused, letter, digit, desk-topic, named, pushed, number, Line, line-of, word, field-end, barred}
 use Rattle.protocol.specs.declared.request.Request.{Request}
 
 module _ (q : Request) (b : ℕ) where
@@ -34,6 +36,21 @@ module _ (q : Request) (b : ℕ) where
     unfolding digit
     digit-read w = rw (ne-eqb (q .phase) 0 p, le-ltb 4294967295 (q .field) w) refl
 
+-- The letters in front of the numbers.
+module _ (q : Request) (l : ℕ) where
+  module _ (d : l ≡ desk-topic) where
+    pub named-topic : eqb (q .topic) 0 ≡ true → known q 0 l (q .verb) (q .values) (q .numbers) ≡ named q l
+    unfolding named
+    named-topic t = rw (eq-eqb l desk-topic d, t) refl
+
+    pub named-again : eqb (q .topic) 0 ≡ false → known q 1 (q .topic) l (q .values) (q .numbers) ≡ named q l
+    unfolding named
+    named-again t = rw (eq-eqb l desk-topic d, t) refl
+
+  pub named-verb : (l ≡ desk-topic → ⊥) → known q 1 (q .topic) l (q .values) (q .numbers) ≡ named q l
+  unfolding named
+  named-verb d = rw (ne-eqb l desk-topic d) refl
+
 -- A number.
 module _ (q : Request) (v : ℕ) where
   pub number-over : 4294967295 < v → refused q ≡ number q v
@@ -41,18 +58,14 @@ module _ (q : Request) (v : ℕ) where
   number-over w = rw (lt-ltb 4294967295 v w) refl
 
   module _ (w : v ≤ 4294967295) where
-    pub number-first : q .numbers ≡ 0 → known q (q .phase) (q .verb) v (q .second) 1 ≡ number q v
+    pub number-ninth : 7 < q .numbers → refused q ≡ number q v
     unfolding number
-    number-first n = rw (le-ltb 4294967295 v w, eq-eqb (q .numbers) 0 n) refl
+    number-ninth n = rw (le-ltb 4294967295 v w, lt-ltb 7 (q .numbers) n) refl
 
-    module _ (m : q .numbers ≡ 0 → ⊥) where
-      pub number-second : q .numbers ≡ 1 → known q (q .phase) (q .verb) (q .first) v 2 ≡ number q v
-      unfolding number
-      number-second n = rw (le-ltb 4294967295 v w, ne-eqb (q .numbers) 0 m, eq-eqb (q .numbers) 1 n) refl
-
-      pub number-third : (q .numbers ≡ 1 → ⊥) → refused q ≡ number q v
-      unfolding number
-      number-third n = rw (le-ltb 4294967295 v w, ne-eqb (q .numbers) 0 m, ne-eqb (q .numbers) 1 n) refl
+    pub number-pushed : q .numbers ≤ 7
+        → known q (q .phase) (q .topic) (q .verb) (pushed (q .values) v) (q .numbers + 1) ≡ number q v
+    unfolding number
+    number-pushed n = rw (le-ltb 4294967295 v w, le-ltb 7 (q .numbers) n) refl
 
 -- A word.
 module _ (q : Request) (v : ℕ) (ws : List ℕ) where
@@ -76,10 +89,9 @@ module _ (q : Request) (ws : List ℕ) where
   no-field w = rw (eq-eqb (q .width) 0 w) refl
 
   module _ (w : q .width ≡ 0 → ⊥) where
-    pub verb-end : q .phase ≡ 0
-        → line-of (known (reading q 0 0) 1 (q .field) (q .first) (q .second) (q .numbers)) ws ≡ field-end q ws
+    pub letters-end : q .phase ≡ 0 → line-of (named (reading q 0 0) (q .field)) ws ≡ field-end q ws
     unfolding field-end
-    verb-end p = rw (ne-eqb (q .width) 0 w, eq-eqb (q .phase) 0 p) refl
+    letters-end p = rw (ne-eqb (q .width) 0 w, eq-eqb (q .phase) 0 p) refl
 
     module _ (p : q .phase ≡ 0 → ⊥) where
       pub number-end : q .phase ≡ 1 → line-of (number (reading q 0 0) (q .field)) ws ≡ field-end q ws
@@ -90,20 +102,12 @@ module _ (q : Request) (ws : List ℕ) where
       unfolding field-end
       word-end n = rw (ne-eqb (q .width) 0 w, ne-eqb (q .phase) 0 p, ne-eqb (q .phase) 1 n) refl
 
--- The bar and the end of the line, from what the end of the field before them left.
+-- The bar, from what the end of the field before it left.
 module _ {l : Line} (q : Request) (ws : List ℕ) (e : line-of q ws ≡ l) where
   pub bar-late : (q .phase ≡ 1 → ⊥) → line-of (refused q) ws ≡ barred l
   unfolding barred
   bar-late p = rw (← e, ne-eqb (q .phase) 1 p) refl
 
-  pub bar-read : q .phase ≡ 1 → line-of (known q 2 (q .verb) (q .first) (q .second) (q .numbers)) ws ≡ barred l
+  pub bar-read : q .phase ≡ 1 → line-of (known q 2 (q .topic) (q .verb) (q .values) (q .numbers)) ws ≡ barred l
   unfolding barred
   bar-read p = rw (← e, eq-eqb (q .phase) 1 p) refl
-
-  pub end-early : (q .phase ≡ 2 → ⊥) → line-of (refused q) ws ≡ finished l
-  unfolding finished
-  end-early p = rw (← e, ne-eqb (q .phase) 2 p) refl
-
-  pub end-read : q .phase ≡ 2 → line-of q ws ≡ finished l
-  unfolding finished
-  end-read p = rw (← e, eq-eqb (q .phase) 2 p) refl

@@ -3,5 +3,7 @@ pub mod Examples
 pub mod Feeding
 pub mod Fields
 pub mod Flushing
+pub mod Lining
 pub mod Replying
 pub mod Requesting
+pub mod Serving

@@ -1,13 +1,13 @@
 -- From the numbers that the calls answer to the text of the line. A call that is not refused answers 0, and the number of a reason is
 -- not 0; so the test of the answer tells which line the outcome has, and the numbers are those in it.
 use Prim.Native.Nat.{ℕ}
-use mathlib.Core.Bool.{Bool}
+use mathlib.Core.Bool.{Bool, false}
 use mathlib.Core.List.{List, _++_}
-use mathlib.Core.Path.{_≡_, sym, ap, _∙_}
+use mathlib.Core.Path.{_≡_, refl, sym, ap, _∙_}
 use lib.ListN.{take}
-use Rattle.calculus.specs.Answer.{Answer, ok, refused}
-use Rattle.calculus.specs.Kinds.{counts}
-use Rattle.calculus.specs.Outcomes.{Checked, Stop, Ran}
+use borrow.Author.Tests.{eq-eqb, ne-eqb}
+use Rattle.calculus.specs.Answer.{Answer, ok, refused, number}
+use Rattle.calculus.specs.Outcomes.{Checked, Desk, allowance-of, Stop, Ran}
 use Rattle.calculus.proofs.NumberInjective.{number-not-zero}
 use Rattle.term.specs.Walk.{span}
 use Rattle.feguavy.specs.Numbers.{checked-numbers, Numbered-check, ran-numbers, Numbered-run}
@@ -17,7 +17,8 @@ use Rattle.text.specs.Appending.{Appends}
 use Rattle.text.specs.Texts.{ascii, spaced}
 use Rattle.text.proofs.Appended.{both}
 use Rattle.text.proofs.Lists.{spaced-append}
-use Rattle.protocol.specs.Answers.{refusal-line, typed-line, checked-line, told, ended-line, ran-line, Replies}
+use Rattle.protocol.specs.Answers.{refusal-line, typed-line, checked-line, ended-line, ran-line, end-line, numbers-line, Replies}
+use Rattle.protocol.specs.Desks.{Serves}
 
 -- A check.
 untyped-text : (a : Answer ℕ) (O : List ℕ) (n : CheckedNumbers)
@@ -56,15 +57,6 @@ module _ {c : Checked} (n : CheckedNumbers) {W O out after : List ℕ} {at r : �
       → Replies (record { text = checked-line c; work = c .work }) W out at r after
   typed-check none e d d′ = check-replies (typed-text (c .answer) O n (h .numbers) none) (both d (rw e at d′))
 
--- A run.
-unrun-text : (kinds : Bool) (a : Answer Stop) (left : ℕ) (S : List ℕ) (n : RanNumbers)
-    → n ≡ ran-numbers a left
-    → (n .answer ≡ 0 → ⊥)
-    → refusal-line (n .answer) (n .place) ≡ ended-line kinds a left S
-unfolding ran-numbers ended-line
-unrun-text kinds (ok s) left S n e some = absurd (some (ap (λ x. x .answer) e))
-unrun-text kinds (refused r p) left S n e some = ap (λ (x : RanNumbers). refusal-line (x .answer) (x .place)) e
-
 -- Numbers behind numbers.
 pub spaced-both : (vs ws : List ℕ) {out mid after : List ℕ} {at next end : ℕ}
     → Appends (spaced vs) out at next mid
@@ -72,38 +64,55 @@ pub spaced-both : (vs ws : List ℕ) {out mid after : List ℕ} {at next end : �
     → Appends (spaced (vs ++ ws)) out at end after
 spaced-both vs ws d d′ = rw (spaced-append vs ws) (both d d′)
 
--- The line of a run that ended, from its numbers.
-abbrev pub end-text : Bool → RanNumbers → List ℕ
-end-text kinds n =
-    let c = counts (n .substitutions) (n .unfoldings) (n .cancellations) in
-    ascii "ran" ++ spaced (told kinds (n .end) (n .steps) c (n .allowance)) ++ ascii " |"
-
-ended-text : (kinds : Bool) (a : Answer Stop) (left : ℕ) (S : List ℕ) (n : RanNumbers)
-    → n ≡ ran-numbers a left
-    → n .answer ≡ 0
-    → end-text kinds n ++ spaced (take (span S 1) S) ≡ ended-line kinds a left S
-unfolding ran-numbers ended-line
-ended-text kinds (ok s) left S n e none = ap (λ (x : RanNumbers). end-text kinds x ++ spaced (take (span S 1) S)) e
-ended-text kinds (refused r p) left S n e none = absurd (number-not-zero r (sym (ap (λ x. x .answer) e) ∙ none))
-
-module _ (kinds : Bool) {c : Ran} (n : RanNumbers) {W S out after : List ℕ} {at r : ℕ} (h : Numbered-run c n W S) where
-  run-replies : {bs : List ℕ}
-      → bs ≡ ended-line kinds (c .answer) (c .allowance) S
-      → Appends bs out at r after
-      → Replies (record { text = ran-line kinds c; work = c .work }) W out at r after
-  run-replies e d = record { text = rw (e ∙ ap (ended-line kinds (c .answer) (c .allowance)) (h .state)) at d; work = h .work }
-
-  pub refused-run : (n .answer ≡ 0 → ⊥)
+-- The line of a run, from its numbers.
+module _ (kinds : Bool) (caller : ℕ) (n : RanNumbers) (S : List ℕ) {out after : List ℕ} {at r : ℕ} where
+  pub refused-text : (n .answer ≡ 0 → ⊥)
       → Appends (refusal-line (n .answer) (n .place)) out at r after
-      → Replies (record { text = ran-line kinds c; work = c .work }) W out at r after
-  refused-run some d = run-replies (unrun-text kinds (c .answer) (c .allowance) S n (h .numbers) some) d
+      → Appends (numbers-line kinds caller n S) out at r after
+  unfolding numbers-line
+  refused-text some d = rw (ne-eqb (n .answer) 0 some) d
 
-  pub ended-run : {ws mid : List ℕ} {k next : ℕ}
+  pub ended-text : {ws mid : List ℕ} {k next : ℕ}
       → n .answer ≡ 0
       → k ≡ span S 1
       → ws ≡ take k S
-      → Appends (end-text kinds n) out at next mid
+      → Appends (end-line kinds caller n) out at next mid
       → Appends (spaced ws) mid next r after
-      → Replies (record { text = ran-line kinds c; work = c .work }) W out at r after
-  ended-run none s e d d′ =
-      run-replies (ended-text kinds (c .answer) (c .allowance) S n (h .numbers) none) (both d (rw (e ∙ ap (λ m. take m S) s) at d′))
+      → Appends (numbers-line kinds caller n S) out at r after
+  unfolding numbers-line
+  ended-text none s e d d′ = rw (eq-eqb (n .answer) 0 none) (both d (rw (e ∙ ap (λ m. take m S) s) at d′))
+
+-- It is the line of the outcome that has these numbers.
+told-line : (kinds : Bool) (caller : ℕ) (S : List ℕ) (a : Answer Stop) (desk : Desk)
+    → numbers-line kinds caller (ran-numbers a desk) S ≡ ended-line kinds a (allowance-of desk caller) S
+unfolding ran-numbers numbers-line ended-line
+told-line kinds caller S (ok s) desk = refl
+told-line kinds caller S (refused r p) desk = rw (ne-eqb (number r) 0 (number-not-zero r)) refl
+
+pub run-replies : (kinds : Bool) (caller : ℕ) {c : Ran} {n : RanNumbers} {W S out after : List ℕ} {at r : ℕ}
+    → Numbered-run c n W S
+    → Appends (numbers-line kinds caller n S) out at r after
+    → Replies (record { text = ran-line kinds caller c; work = c .work }) W out at r after
+run-replies kinds caller {c} h d =
+    record {
+      text = rw (h .numbers, h .state, told-line kinds caller (c .state) (c .answer) (c .desk)) at d;
+      work = h .work;
+    }
+
+-- And the desk of the numbers is the outcome's.
+left-desk : (a : Answer Stop) (desk : Desk) → ran-numbers a desk .desk .allowances ≡ desk
+unfolding ran-numbers
+left-desk (ok s) desk = refl
+left-desk (refused r p) desk = refl
+
+pub run-serves : (caller : ℕ) {c : Ran} (n : RanNumbers) {W S out after : List ℕ} {at r : ℕ}
+    → Numbered-run c n W S
+    → Appends (numbers-line false caller n S) out at r after
+    → Serves
+    (record { reply = record { text = ran-line false caller c; work = c .work }; desk = c .desk })
+    W out at (record { end = r; desk = n .desk }) after
+run-serves caller {c} n h d =
+    record {
+      replies = run-replies false caller h d;
+      desk = ap (λ x. x .desk .allowances) (h .numbers) ∙ left-desk (c .answer) (c .desk);
+    }

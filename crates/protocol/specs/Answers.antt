@@ -1,18 +1,21 @@
 -- The text of the answer to a request (docs/FORMAT.md, The line protocol), from the outcomes of the calculus, and what the answer
 -- leaves in the working slice.
 use Prim.Native.Nat.{ℕ}
-use mathlib.Core.Bool.{Bool, true, false, cond, _&&_, _||_}
+use mathlib.Core.Bool.{Bool, true, false, cond}
 use mathlib.Core.List.{List, [], _∷_, _++_}
 use mathlib.Core.Path.{_≡_}
-use lib.Dec.{eqb, leb}
+use lib.Dec.{eqb}
 use lib.ListN.{take, replicate}
 use Rattle.calculus.specs.Answer.{Answer, ok, refused, number}
-use Rattle.calculus.specs.Kinds.{Counts}
+use Rattle.calculus.specs.Kinds.{Counts, counts}
 use Rattle.calculus.specs.Run.{end-number}
-use Rattle.calculus.specs.Outcomes.{Checked, Stop, Ran, check, run, part}
+use Rattle.calculus.specs.Outcomes.{Checked, check, alone, allowance-of, Stop, Ran, run, part}
 use Rattle.term.specs.Walk.{span}
+use Rattle.feguavy.specs.declared.RanNumbers.{RanNumbers}
 use Rattle.text.specs.Appending.{Appends}
 use Rattle.text.specs.Texts.{ascii, spaced}
+use Rattle.protocol.specs.Forms.{asks-check, asks-run, asks-kinds, asks-part}
+use Rattle.protocol.specs.Requests.{last, before-last}
 use Rattle.protocol.specs.declared.request.Request.{Request}
 
 -- `refused REASON PLACE`.
@@ -41,8 +44,19 @@ ended-line kinds (ok s) left S =
     ascii "ran" ++ spaced (told kinds (end-number (s .end)) (s .steps) (s .counts) left) ++ ascii " |" ++ spaced (take (span S 1) S)
 ended-line kinds (refused r p) left S = refusal-line (number r) p
 
-abbrev pub ran-line : Bool → Ran → List ℕ
-ran-line kinds c = ended-line kinds (c .answer) (c .allowance) (c .state)
+-- `LEFT` is what is left to the caller.
+abbrev pub ran-line : Bool → ℕ → Ran → List ℕ
+ran-line kinds caller c = ended-line kinds (c .answer) (allowance-of (c .desk) caller) (c .state)
+
+-- The same from the numbers of the export and its state slice; first what stands before the words.
+abbrev pub end-line : Bool → ℕ → RanNumbers → List ℕ
+end-line kinds caller n =
+    let c = counts (n .substitutions) (n .unfoldings) (n .cancellations) in
+    ascii "ran" ++ spaced (told kinds (n .end) (n .steps) c (allowance-of (n .desk .allowances) caller)) ++ ascii " |"
+
+unfoldable pub numbers-line : Bool → ℕ → RanNumbers → List ℕ → List ℕ
+numbers-line kinds caller n S =
+    cond (eqb (n .answer) 0) (end-line kinds caller n ++ spaced (take (span S 1) S)) (refusal-line (n .answer) (n .place))
 
 -- `part | WORDS`.
 abbrev pub part-line : List ℕ → List ℕ
@@ -60,52 +74,25 @@ lent = replicate 1024 0
 abbrev pub check-reply : List ℕ → ℕ → List ℕ → Reply
 check-reply ws L W = record { text = checked-line (check ws L W lent); work = check ws L W lent .work }
 
+-- A run of caller 0, alone at the desk.
 abbrev pub run-reply : Bool → List ℕ → ℕ → ℕ → List ℕ → Reply
 run-reply kinds ws budget allowance W =
-    record { text = ran-line kinds (run ws budget allowance W lent); work = run ws budget allowance W lent .work }
+    let c = run ws budget 0 (alone allowance) W lent in
+    record { text = ran-line kinds 0 c; work = c .work }
 
 abbrev pub part-reply : List ℕ → ℕ → List ℕ → Reply
 part-reply ws k W = record { text = part-line (part ws k); work = W }
 
--- The verbs, their letters as one number in base 256.
-abbrev pub check-verb : ℕ
-check-verb = 426953237355
-
-abbrev pub run-verb : ℕ
-run-verb = 7501166
-
--- A run with its counts by kind.
-abbrev pub kinds-verb : ℕ
-kinds-verb = 461330343027
-
-abbrev pub is-run : ℕ → Bool
-is-run verb = eqb verb run-verb || eqb verb kinds-verb
-
--- A run that may take 100,000 steps or more.
-abbrev pub takes-long : Request → Bool
-takes-long q = is-run (q .verb) && leb 100000 (q .first) && leb 100000 (q .second)
-
-abbrev pub part-verb : ℕ
-part-verb = 1885434484
-
--- Whether a line is a request: nothing in it was wrong, and its verb has as many numbers as it takes, two for `run` and
--- `kinds`, one for `check` and `part`.
-unfoldable pub is-request : Request → Bool
-is-request q =
-    cond (q .wrong) false
-    (cond (is-run (q .verb)) (eqb (q .numbers) 2) (eqb (q .numbers) 1 && (eqb (q .verb) check-verb || eqb (q .verb) part-verb)))
-
 -- The reply to a request, whose term is the first of the words kept. "Anything else: `error`".
 unfoldable pub reply : Request → List ℕ → List ℕ → Reply
 reply q ws W =
-    cond (is-request q)
-    (cond (eqb (q .verb) check-verb) (check-reply (take (q .count) ws) (q .first) W)
-    (cond (eqb (q .verb) run-verb) (run-reply false (take (q .count) ws) (q .first) (q .second) W)
-    (cond (eqb (q .verb) kinds-verb) (run-reply true (take (q .count) ws) (q .first) (q .second) W)
-    (part-reply (take (q .count) ws) (q .first) W))))
-    (record { text = ascii "error"; work = W })
+    let term = take (q .count) ws in
+    cond (asks-check q) (check-reply term (last q) W)
+    (cond (asks-run q) (run-reply false term (before-last q) (last q) W)
+    (cond (asks-kinds q) (run-reply true term (before-last q) (last q) W)
+    (cond (asks-part q) (part-reply term (last q) W) (record { text = ascii "error"; work = W }))))
 
--- "One line each": the reply with a line feed behind its text.
+-- "One answer a line": the reply with a line feed behind its text.
 abbrev pub ended-by-feed : Reply → Reply
 ended-by-feed a = record { text = a .text ++ (10 ∷ []); work = a .work }
 

@@ -1,32 +1,31 @@
--- Request lines read from their first byte to their end, for each verb.
-use mathlib.Core.Bool.{true, false}
-use mathlib.Core.List.{List, [], _∷_}
-use mathlib.Core.Path.{_≡_}
-use Prim.Native.Nat.{ℕ}
+-- Request lines read from their first byte to their end, one of each form.
+use Prim.Native.Nat.{ℕ, _-_}
 use Prim.Native.String.{String}
+use mathlib.Core.Bool.{Bool, true, false}
+use mathlib.Core.List.{List, [], _∷_, _++_}
+use mathlib.Core.Path.{_≡_}
+use lib.ListN.{length, replicate}
 use Rattle.text.specs.Texts.{ascii}
-use Rattle.protocol.specs.Answers.{check-verb, run-verb, kinds-verb, part-verb}
-use Rattle.protocol.specs.Requests.{Line, line-of, unread, fed, field-end, finished}
+use Rattle.protocol.specs.Forms.{check-verb, run-verb, kinds-verb, part-verb, new-verb, show-verb, asks-check, asks-run, asks-kinds, asks-part, asks-desk-new, asks-desk-run, asks-desk-show}
+use Rattle.protocol.specs.Requests.{Line, line-of, unread, desk-topic, field-end, fed-line}
+use Rattle.protocol.specs.declared.request.Request.{Request}
 
--- All the bytes of a line, and its end.
-unfoldable pub read : Line → List ℕ → Line
-read l [] = finished (field-end (l .request) (l .words))
-read l (b ∷ bs) = read (fed (l .request) b (l .words)) bs
-
--- A line that is read whole, where four words are kept at most.
+-- A line that is read whole, with its end, where four words are kept at most.
 abbrev pub reads : String → Line
-reads line = read (line-of unread (0 ∷ 0 ∷ 0 ∷ 0 ∷ [])) (ascii line)
+reads line =
+    let l = fed-line (line-of unread (0 ∷ 0 ∷ 0 ∷ 0 ∷ [])) (ascii line) in
+    field-end (l .request) (l .words)
 
--- A request with its verb, its numbers and its words.
-abbrev pub request : ℕ → ℕ → ℕ → ℕ → ℕ → List ℕ → Line
-request verb numbers first second count words =
+-- A request with its topic, its verb and its numbers, in phase 1 without words and in phase 2 with them.
+abbrev pub request : ℕ → ℕ → ℕ → List ℕ → ℕ → List ℕ → Line
+request phase topic verb numbers count words =
     line-of
     (record {
-      phase = 2;
+      phase = phase;
+      topic = topic;
       verb = verb;
-      first = first;
-      second = second;
-      numbers = numbers;
+      values = replicate (8 - length numbers) 0 ++ numbers;
+      numbers = length numbers;
       field = 0;
       width = 0;
       count = count;
@@ -35,9 +34,17 @@ request verb numbers first second count words =
     })
     words
 
+-- `Reads line form l`: the line is read as `l`, which is of this form.
+pub record Reads (line : String) (form : Request → Bool) (l : Line) : Type 0 where
+  pub read : reads line ≡ l
+  pub asked : form (l .request) ≡ true
+
 abbrev pub Examples : Type 0
 Examples =
-    (reads "check 64 | 4 0 16" ≡ request check-verb 1 64 0 3 (4 ∷ 0 ∷ 16 ∷ 0 ∷ []))
-    × (reads "run 1000 999 |0" ≡ request run-verb 2 1000 999 1 (0 ∷ 0 ∷ 0 ∷ 0 ∷ []))
-    × (reads "kinds 7 4294967295 | 6 0 16" ≡ request kinds-verb 2 7 4294967295 3 (6 ∷ 0 ∷ 16 ∷ 0 ∷ []))
-    × (reads "\tpart 2| 5 0 0 7 7" ≡ request part-verb 1 2 0 4 (5 ∷ 0 ∷ 0 ∷ 7 ∷ []))
+    Reads "check 64 | 4 0 16" asks-check (request 2 0 check-verb (64 ∷ []) 3 (4 ∷ 0 ∷ 16 ∷ 0 ∷ []))
+    × Reads "run 1000 999 |0" asks-run (request 2 0 run-verb (1000 ∷ 999 ∷ []) 1 (0 ∷ 0 ∷ 0 ∷ 0 ∷ []))
+    × Reads "kinds 7 4294967295 | 6 0 16" asks-kinds (request 2 0 kinds-verb (7 ∷ 4294967295 ∷ []) 3 (6 ∷ 0 ∷ 16 ∷ 0 ∷ []))
+    × Reads "\tpart 2| 5 0 0 7 7" asks-part (request 2 0 part-verb (2 ∷ []) 4 (5 ∷ 0 ∷ 0 ∷ 7 ∷ []))
+    × Reads "desk new 1 2 3 4 5 6 7 4294967295" asks-desk-new (request 1 desk-topic new-verb (1 ∷ 2 ∷ 3 ∷ 4 ∷ 5 ∷ 6 ∷ 7 ∷ 4294967295 ∷ []) 0 (0 ∷ 0 ∷ 0 ∷ 0 ∷ []))
+    × Reads "desk run 3 1000 | 6 0 16" asks-desk-run (request 2 desk-topic run-verb (3 ∷ 1000 ∷ []) 3 (6 ∷ 0 ∷ 16 ∷ 0 ∷ []))
+    × Reads " desk  show\r" asks-desk-show (request 1 desk-topic show-verb [] 0 (0 ∷ 0 ∷ 0 ∷ 0 ∷ []))

@@ -1,6 +1,5 @@
 -- What may become of the answers that wait to be written, whatever the device does with them.
 use Prim.Native.Nat.{ℕ, _+_, _-_, _^_, _≤_, _<_, min}
-use mathlib.Core.Bool.{Bool, true, false}
 use mathlib.Core.List.{List}
 use mathlib.Core.Path.{_≡_}
 use lib.ListN.{length, take}
@@ -35,7 +34,7 @@ pub data Roomy (o : Output) (out : List ℕ) : Output → Type 0 where
   room : o .filled < length out → 16384 ≤ length out - o .filled → Roomy o out o
   flushed : {r : Output} → Flushed o out r → Roomy o out r
 
--- `Ready o long out r`: before what may take long the output is flushed.
-pub data Ready (o : Output) (long : Bool) (out : List ℕ) : Output → Type 0 where
-  at-once : long ≡ false → Ready o long out o
-  after-all : {r : Output} → long ≡ true → Flushed o out r → Ready o long out r
+-- `Ready o g out r`: before a run that is granted 100,000 steps or more the output is flushed.
+pub data Ready (o : Output) (g : ℕ) (out : List ℕ) : Output → Type 0 where
+  at-once : g < 100000 → Ready o g out o
+  after-all : {r : Output} → 100000 ≤ g → Flushed o out r → Ready o g out r

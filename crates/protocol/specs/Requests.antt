@@ -1,21 +1,21 @@
 -- What each byte of a request line does to what is known of the line, and to the words kept (docs/FORMAT.md, The line protocol). The
 -- cases are those of the code, in its order.
-use Prim.Native.Nat.{ℕ, _+_, _-_, _*_, _%_}
+use Prim.Native.Nat.{ℕ, suc, _+_, _-_, _*_, _%_}
 use mathlib.Core.Bool.{Bool, true, false, cond, _&&_, _||_}
-use mathlib.Core.List.{List}
+use mathlib.Core.List.{List, [], _∷_}
 use lib.Dec.{eqb, ltb, leb}
-use lib.ListN.{length, set}
+use lib.ListN.{length, replicate, getD, set}
 use Rattle.protocol.specs.declared.request.Request.{Request}
 
--- The fields that a byte may change: how far the line is, its verb, its numbers, the field being read, how many words are kept, and
--- whether it is no request.
-abbrev pub known : Request → ℕ → ℕ → ℕ → ℕ → ℕ → Request
-known q phase verb first second numbers =
+-- The fields that a byte may change: how far the line is, its topic, its verb and its numbers; the field being read; how many words
+-- are kept; and whether it is no request.
+abbrev pub known : Request → ℕ → ℕ → ℕ → List ℕ → ℕ → Request
+known q phase topic verb values numbers =
     record {
       phase = phase;
+      topic = topic;
       verb = verb;
-      first = first;
-      second = second;
+      values = values;
       numbers = numbers;
       field = q .field;
       width = q .width;
@@ -28,9 +28,9 @@ abbrev pub reading : Request → ℕ → ℕ → Request
 reading q field width =
     record {
       phase = q .phase;
+      topic = q .topic;
       verb = q .verb;
-      first = q .first;
-      second = q .second;
+      values = q .values;
       numbers = q .numbers;
       field = field;
       width = width;
@@ -43,9 +43,9 @@ abbrev pub keeping : Request → ℕ → Request
 keeping q count =
     record {
       phase = q .phase;
+      topic = q .topic;
       verb = q .verb;
-      first = q .first;
-      second = q .second;
+      values = q .values;
       numbers = q .numbers;
       field = q .field;
       width = q .width;
@@ -59,9 +59,9 @@ abbrev pub refused : Request → Request
 refused q =
     record {
       phase = q .phase;
+      topic = q .topic;
       verb = q .verb;
-      first = q .first;
-      second = q .second;
+      values = q .values;
       numbers = q .numbers;
       field = q .field;
       width = q .width;
@@ -75,9 +75,9 @@ abbrev pub unread : Request
 unread =
     record {
       phase = 0;
+      topic = 0;
       verb = 0;
-      first = 0;
-      second = 0;
+      values = replicate 8 0;
       numbers = 0;
       field = 0;
       width = 0;
@@ -86,7 +86,7 @@ unread =
       wrong = false;
     }
 
--- A letter of the verb, which has at most five.
+-- A letter of the topic or of the verb, which have at most five.
 unfoldable pub letter : Request → ℕ → Request
 letter q b =
     cond (eqb (q .phase) 0)
@@ -98,12 +98,33 @@ unfoldable pub digit : Request → ℕ → Request
 digit q d =
     cond (eqb (q .phase) 0) (refused q) (cond (ltb 4294967295 (q .field)) (refused q) (reading q (q .field * 10 + d) 1))
 
--- "A number [...] fits 32 bits", and there are two at most.
+-- The topic `desk`, its letters as one number in base 256. A line without one has the topic 0.
+abbrev pub desk-topic : ℕ
+desk-topic = 1684370283
+
+-- The letters in front of the numbers: a topic, where there is none yet, or the verb.
+unfoldable pub named : Request → ℕ → Request
+named q letters =
+    cond (eqb letters desk-topic && eqb (q .topic) 0) (known q 0 letters (q .verb) (q .values) (q .numbers))
+    (known q 1 (q .topic) letters (q .values) (q .numbers))
+
+-- One more number behind the last seven of those before it.
+unfoldable pub pushed : List ℕ → ℕ → List ℕ
+pushed vs v =
+    getD vs 1 0 ∷ getD vs 2 0 ∷ getD vs 3 0 ∷ getD vs 4 0 ∷ getD vs 5 0 ∷ getD vs 6 0 ∷ getD vs 7 0 ∷ v ∷ []
+
+-- "A number [...] fits 32 bits", and there are eight at most.
 unfoldable pub number : Request → ℕ → Request
 number q v =
     cond (ltb 4294967295 v) (refused q)
-    (cond (eqb (q .numbers) 0) (known q (q .phase) (q .verb) v (q .second) 1)
-    (cond (eqb (q .numbers) 1) (known q (q .phase) (q .verb) (q .first) v 2) (refused q)))
+    (cond (ltb 7 (q .numbers)) (refused q) (known q (q .phase) (q .topic) (q .verb) (pushed (q .values) v) (q .numbers + 1)))
+
+-- The last number, and the one before it.
+abbrev pub last : Request → ℕ
+last q = getD (q .values) 7 0
+
+abbrev pub before-last : Request → ℕ
+before-last q = getD (q .values) 6 0
 
 -- What is known of a line, with the words kept.
 pub record Line : Type 0 where
@@ -119,32 +140,29 @@ word q v ws =
     cond (ltb 65535 v) (line-of (refused q) ws)
     (cond (ltb (q .count) (length ws)) (line-of (keeping q (q .count + 1)) (set ws (q .count) v)) (line-of q ws))
 
--- The end of a field, where one was begun: the verb, a number or a word.
+-- The end of a field, where one was begun: the topic or the verb, a number, or a word. The end of the line is the end of its last
+-- field.
 unfoldable pub field-end : Request → List ℕ → Line
 field-end q ws =
     let rest = reading q 0 0 in
     cond (eqb (q .width) 0) (line-of q ws)
-    (cond (eqb (q .phase) 0) (line-of (known rest 1 (q .field) (q .first) (q .second) (q .numbers)) ws)
+    (cond (eqb (q .phase) 0) (line-of (named rest (q .field)) ws)
     (cond (eqb (q .phase) 1) (line-of (number rest (q .field)) ws) (word rest (q .field) ws)))
 
--- The bar between the numbers and the words: "the bar is asked for".
+-- The bar between the numbers and the words.
 unfoldable pub barred : Line → Line
 barred l =
     let q = l .request in
-    cond (eqb (q .phase) 1) (line-of (known q 2 (q .verb) (q .first) (q .second) (q .numbers)) (l .words)) (line-of (refused q) (l .words))
-
--- The end of the line, which is behind the bar.
-unfoldable pub finished : Line → Line
-finished l = cond (eqb (l .request .phase) 2) l (line-of (refused (l .request)) (l .words))
+    cond (eqb (q .phase) 1) (line-of (known q 2 (q .topic) (q .verb) (q .values) (q .numbers)) (l .words)) (line-of (refused q) (l .words))
 
 -- Some byte is read.
 abbrev pub touched : Request → Request
 touched q =
     record {
       phase = q .phase;
+      topic = q .topic;
       verb = q .verb;
-      first = q .first;
-      second = q .second;
+      values = q .values;
       numbers = q .numbers;
       field = q .field;
       width = q .width;
@@ -164,3 +182,12 @@ fed q b ws =
     (cond (eqb b 124) (barred (field-end (touched q) ws))
     (cond (leb 48 b && ltb b 58) (line-of (digit (touched q) (b - 48)) ws)
     (cond (leb 97 b && ltb b 123) (line-of (letter (touched q) b) ws) (line-of (refused (touched q)) ws))))
+
+-- All the bytes of a line, up to its line feed or to the end of what there is; and how many they are.
+unfoldable pub fed-line : Line → List ℕ → Line
+fed-line l [] = l
+fed-line l (b ∷ bs) = cond (eqb b 10) l (fed-line (fed (l .request) b (l .words)) bs)
+
+unfoldable pub line-length : List ℕ → ℕ
+line-length [] = 0
+line-length (b ∷ bs) = cond (eqb b 10) 0 (suc (line-length bs))

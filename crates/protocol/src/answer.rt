@@ -1,5 +1,6 @@
-// The answer to a request, as one line of text.
+// The answer to a request that depends on none before it, as one line of text.
 use crate::request::Request;
+use evaluation::Desk;
 use feguavy::RanNumbers;
 use feguavy::feguavy_check;
 use feguavy::feguavy_run;
@@ -12,12 +13,23 @@ ghost use Rattle.calculus.specs.Kinds.{counts};
 ghost use Rattle.calculus.specs.Outcomes.{part};
 ghost use Rattle.text.specs.Appending.{Appends};
 ghost use Rattle.text.specs.Texts.{ascii, spaced};
-ghost use Rattle.protocol.specs.Answers.{check-reply, run-reply, by-kind, told, part-line, reply, ended-by-feed, is-run, is-request, takes-long, Replies};
+ghost use Rattle.protocol.specs.Answers.{
+  by-kind,
+  check-reply,
+  end-line,
+  ended-by-feed,
+  numbers-line,
+  part-line,
+  reply,
+  Replies,
+  run-reply,
+};
+ghost use Rattle.protocol.specs.Forms.{asks, granted, is-request, is-run};
 
 // The verbs, their letters as one number.
 const CHECK: u64 = 426953237355;
 
-const RUN: u64 = 7501166;
+pub const RUN: u64 = 7501166;
 
 const KINDS: u64 = 461330343027;
 
@@ -61,18 +73,37 @@ fn by_kind(ran: RanNumbers, kinds: bool, out: &mut [u8], at: usize) -> usize
 }
 
 // `ran END STEPS LEFT |`, with the counts behind the steps where they are asked for.
-fn ended(ran: RanNumbers, kinds: bool, out: &mut [u8], at: usize) -> usize
-    ensures { λ r. ⌜ Appends (ascii "ran" ++ spaced (told kinds (ran .end) (ran .steps) (counts (ran .substitutions) (ran .unfoldings) (ran .cancellations)) (ran .allowance)) ++ ascii " |")
-        (now (out .entry)) at r (now (out .exit)) ⌝ }
+fn ended(ran: RanNumbers, caller: u32, kinds: bool, out: &mut [u8], at: usize) -> usize
+    ensures { λ r. ⌜ Appends (end-line kinds caller ran) (now (out .entry)) at r (now (out .exit)) ⌝ }
 {
     let named = text::bytes(b"ran", out, at);
     let stepped = text::numbers(&[ran.end, ran.steps], out, named);
     let counted = by_kind(ran, kinds, out, stepped);
-    let numbered = text::numbers(&[ran.allowance], out, counted);
+    let left = ran.desk.allowance_of(caller);
+    let numbered = text::numbers(&[left], out, counted);
     text::bytes(b" |", out, numbered)
 }
 
-// `ran END STEPS LEFT | WORDS`, with the counts where they are asked for, or the refusal.
+// `ran END STEPS LEFT | WORDS`, with the counts where they are asked for, or the refusal: from the numbers of a run and its state slice.
+pub fn run_line(
+    ran: RanNumbers,
+    caller: u32,
+    kinds: bool,
+    state: &[u16],
+    out: &mut [u8],
+    at: usize,
+) -> usize
+    ensures { λ r. ⌜ Appends (numbers-line kinds caller ran (now (state .entry))) (now (out .entry)) at r (now (out .exit)) ⌝ }
+{
+    if ran.answer != 0 {
+        return refusal(ran.answer, ran.place, out, at);
+    }
+    let barred = ended(ran, caller, kinds, out, at);
+    let length = span(state);
+    text::spaced(front(state, length), out, barred)
+}
+
+// A run of caller 0, alone at the desk.
 fn ran(
     term: &[u16],
     budget: u32,
@@ -85,14 +116,9 @@ fn ran(
     ensures { λ r. ⌜ Replies (run-reply kinds (now (term .entry)) budget allowance (now (work .entry)))
         (now (work .exit)) (now (out .entry)) at r (now (out .exit)) ⌝ }
 {
-    let mut result = [0u16; 1024];
-    let answer = feguavy_run(term, budget, work, &mut result, allowance);
-    if answer.answer != 0 {
-        return refusal(answer.answer, answer.place, out, at);
-    }
-    let barred = ended(answer, kinds, out, at);
-    let length = span(&result);
-    text::spaced(front(&result, length), out, barred)
+    let mut state = [0u16; 1024];
+    let answer = feguavy_run(term, budget, work, &mut state, 0, Desk::alone(allowance));
+    run_line(answer, 0, kinds, &state, out, at)
 }
 
 // `part | WORDS`.
@@ -103,35 +129,53 @@ fn parted(term: &[u16], number: u32, out: &mut [u8], at: usize) -> usize
     text::spaced(part(term, number), out, named)
 }
 
-// Whether the verb is one of a run.
-fn runs(verb: u64) -> bool
-    ensures { λ r. ⌜ r ≡ is-run verb ⌝ }
+// Whether the line is a request of this form (specs/Forms.antt).
+pub fn asks(request: Request, topic: u64, verb: u64, numbers: u32, phase: u32) -> bool
+    ensures { λ r. ⌜ r ≡ asks request topic verb numbers phase ⌝ }
 {
-    verb == RUN || verb == KINDS
-}
-
-// Whether the answer may take so long that those before it should not wait for it: a run that may take this many steps.
-const LONG: u32 = 100000;
-
-pub fn lengthy(request: Request) -> bool
-    ensures { λ r. ⌜ r ≡ takes-long request ⌝ }
-{
-    runs(request.verb) && LONG <= request.first && LONG <= request.second
-}
-
-// Whether the line is a request: a verb with as many numbers as it takes.
-pub fn proper(request: Request) -> bool
-    ensures { λ r. ⌜ r ≡ is-request request ⌝ }
-{
-    let verb = request.verb;
-    let numbers = request.numbers;
     if request.wrong {
         return false;
     }
-    if runs(verb) {
-        return numbers == 2;
+    if request.topic != topic {
+        return false;
     }
-    numbers == 1 && (verb == CHECK || verb == PART)
+    if request.verb != verb {
+        return false;
+    }
+    if request.numbers != numbers {
+        return false;
+    }
+    request.phase == phase
+}
+
+// Whether the line is a run.
+fn runs(request: Request) -> bool
+    ensures { λ r. ⌜ r ≡ is-run request ⌝ }
+{
+    asks(request, 0, RUN, 2, 2) || asks(request, 0, KINDS, 2, 2)
+}
+
+// The steps granted to the run that the request asks for, 0 where it asks for none.
+pub fn granted(request: Request) -> u32
+    ensures { λ r. ⌜ r ≡ granted request ⌝ }
+{
+    if !runs(request) {
+        return 0;
+    }
+    let budget = request.before_last();
+    let allowance = request.last();
+    if budget < allowance {
+        budget
+    } else {
+        allowance
+    }
+}
+
+// Whether the line is a request.
+pub fn proper(request: Request) -> bool
+    ensures { λ r. ⌜ r ≡ is-request request ⌝ }
+{
+    runs(request) || asks(request, 0, CHECK, 1, 2) || asks(request, 0, PART, 1, 2)
 }
 
 // The answer, or `error` where the line is no request.
@@ -139,21 +183,21 @@ pub fn line(request: Request, words: &[u16], work: &mut [u16], out: &mut [u8], a
     ensures { λ r. ⌜ Replies (reply request (now (words .entry)) (now (work .entry)))
         (now (work .exit)) (now (out .entry)) at r (now (out .exit)) ⌝ }
 {
-    if !proper(request) {
-        return text::bytes(b"error", out, at);
-    }
     let term = front(words, request.count);
-    let verb = request.verb;
-    if verb == CHECK {
-        return checked(term, request.first, work, out, at);
+    let last = request.last();
+    if asks(request, 0, CHECK, 1, 2) {
+        return checked(term, last, work, out, at);
     }
-    if verb == RUN {
-        return ran(term, request.first, request.second, false, work, out, at);
+    if asks(request, 0, RUN, 2, 2) {
+        return ran(term, request.before_last(), last, false, work, out, at);
     }
-    if verb == KINDS {
-        return ran(term, request.first, request.second, true, work, out, at);
+    if asks(request, 0, KINDS, 2, 2) {
+        return ran(term, request.before_last(), last, true, work, out, at);
     }
-    parted(term, request.first, out, at)
+    if asks(request, 0, PART, 1, 2) {
+        return parted(term, last, out, at);
+    }
+    text::bytes(b"error", out, at)
 }
 
 // Appends the answer and a line feed.

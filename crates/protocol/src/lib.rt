@@ -1,4 +1,5 @@
 // Requests and their answers as lines of text, and what is said of them on standard error.
 pub mod answer;
+pub mod desk;
 pub mod output;
 pub mod request;

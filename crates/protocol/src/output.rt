@@ -1,6 +1,4 @@
 // The answers on their way to standard output, and what is said of them on standard error.
-use crate::answer;
-use crate::request::Request;
 use libc::STDERR_FILENO;
 use libc::STDOUT_FILENO;
 ghost use Prim.Native.Nat.{_+_, _-_, _^_, min};
@@ -8,11 +6,13 @@ ghost use mathlib.Core.Path.{_≡_};
 ghost use mathlib.Core.List.{_++_};
 ghost use Rattle.text.specs.Appending.{Appends};
 ghost use Rattle.text.specs.Texts.{ascii, decimal};
-ghost use Rattle.protocol.specs.Answers.{takes-long};
 ghost use Rattle.protocol.specs.Outputs.{one-more, Flushed, Ready, Roomy};
 
 // Room for the longest line: a thousand words, and a path.
 const LONGEST: usize = 16384;
+
+// The steps of a run that may take long.
+const LONG: u32 = 100000;
 
 // How much of the buffer is filled, how many answers were made and how many of these are written out whole, and the system's number of
 // what keeps the rest from being written, 0 for nothing.
@@ -92,11 +92,11 @@ impl Output {
         self.flushed(out)
     }
 
-    // Written out where the request may take long.
-    pub fn ready_for(self, request: Request, out: &[u8]) -> Self
-        ensures { λ r. ⌜ Ready self (takes-long request) (now (out .entry)) r ⌝ }
+    // Written out before a run that is granted so many steps that those before it should not wait for it.
+    pub fn ready_for(self, grant: u32, out: &[u8]) -> Self
+        ensures { λ r. ⌜ Ready self grant (now (out .entry)) r ⌝ }
     {
-        if answer::lengthy(request) {
+        if LONG <= grant {
             return self.flushed(out);
         }
         self

@@ -1,29 +1,39 @@
 // A request line, read byte by byte: fields of decimal digits parted by spaces, tabs or carriage returns. Words beyond the
 // 1,025th are tested and not kept: a term of so many words is refused by its length.
+ghost use Prim.Native.Nat.{_+_};
 ghost use mathlib.Core.Path.{_≡_};
+ghost use lib.ListN.{drop};
 ghost use Rattle.protocol.specs.Requests.{
   unread,
   refused,
   letter,
   digit,
+  named,
   number,
   keeping,
   line-of,
   word,
   field-end,
   barred,
-  finished,
+  last,
+  before-last,
   fed,
+  fed-line,
+  line-length,
 };
+
+// The topic `desk`, its letters as one number.
+pub const DESK: u64 = 1684370283;
 
 // What is known of a line so far.
 pub struct Request {
     // 0 before the verb's end, 1 among the numbers, 2 behind the bar
     pub phase: u32,
-    // the letters of the verb, as one number
+    // what the request is about, where the line begins with that, else 0; and the verb: the letters of each as one number
+    pub topic: u64,
     pub verb: u64,
-    pub first: u32,
-    pub second: u32,
+    // the last numbers, of which the newest is the last, and how many were read
+    pub values: [u32; 8],
     pub numbers: u32,
     // the field being read, and how many bytes it has
     pub field: u64,
@@ -35,15 +45,21 @@ pub struct Request {
     pub wrong: bool,
 }
 
+// A line as far as it was read, and the place behind that.
+pub struct Fed {
+    pub request: Request,
+    pub at: usize,
+}
+
 impl Request {
     pub fn new() -> Self
         ensures { λ r. ⌜ r ≡ unread ⌝ }
     {
         Request {
             phase: 0,
+            topic: 0,
             verb: 0,
-            first: 0,
-            second: 0,
+            values: [0; 8],
             numbers: 0,
             field: 0,
             width: 0,
@@ -65,6 +81,39 @@ impl Request {
         ensures { λ r. ⌜ r ≡ self .any ⌝ }
     {
         self.any
+    }
+
+    // The last number, and the one before it.
+    pub fn last(self) -> u32
+        ensures { λ r. ⌜ r ≡ last self ⌝ }
+    {
+        let values = self.values;
+        values[7]
+    }
+
+    pub fn before_last(self) -> u32
+        ensures { λ r. ⌜ r ≡ before-last self ⌝ }
+    {
+        let values = self.values;
+        values[6]
+    }
+
+    // With the bytes from `from` on, up to the line feed.
+    pub fn fed_line(self, input: &[u8], from: usize, words: &mut [u16]) -> Fed
+        ensures { λ r. ⌜ line-of (r .request) (now (words .exit)) ≡ fed-line (line-of self (now (words .entry))) (drop from (now (input .entry))) ⌝ }
+        ensures { λ r. ⌜ r .at ≡ from + line-length (drop from (now (input .entry))) ⌝ }
+    {
+        let mut line = self;
+        let mut at = from;
+        while at < input.len() {
+            let byte = input[at];
+            if byte == b'\n' {
+                return Fed { request: line, at };
+            }
+            line = line.fed(byte, words);
+            at += 1;
+        }
+        Fed { request: line, at }
     }
 
     // With one more byte.
@@ -89,7 +138,7 @@ impl Request {
         self
     }
 
-    // One letter of the verb, which has at most five: the four before it are a number of 32 bits.
+    // One letter of the topic or of the verb, which have at most five: the four before it are a number of 32 bits.
     fn letter(mut self, byte: u8) -> Self
         ensures { λ r. ⌜ r ≡ letter self byte ⌝ }
     {
@@ -119,8 +168,8 @@ impl Request {
         self
     }
 
-    // The field is at its end: the verb, a number or a word.
-    fn field_ended(mut self, words: &mut [u16]) -> Self
+    // The field is at its end: the topic or the verb, a number or a word. A line is at its end where its last field is.
+    pub fn field_ended(mut self, words: &mut [u16]) -> Self
         ensures { λ r. ⌜ line-of r (now (words .exit)) ≡ field-end self (now (words .entry)) ⌝ }
     {
         if self.width == 0 {
@@ -130,9 +179,7 @@ impl Request {
         self.field = 0;
         self.width = 0;
         if self.phase == 0 {
-            self.verb = field;
-            self.phase = 1;
-            return self;
+            return self.named(field);
         }
         if self.phase == 1 {
             return self.number(field);
@@ -140,24 +187,34 @@ impl Request {
         self.word(field, words)
     }
 
-    // A number of 32 bits, of which a request has two at most.
+    // The letters of a topic, where there is none yet, or of the verb.
+    fn named(mut self, letters: u64) -> Self
+        ensures { λ r. ⌜ r ≡ named self letters ⌝ }
+    {
+        if letters == DESK && self.topic == 0 {
+            self.topic = letters;
+            self.phase = 0;
+            return self;
+        }
+        self.verb = letters;
+        self.phase = 1;
+        self
+    }
+
+    // A number of 32 bits, of which a request has eight at most.
     fn number(mut self, value: u64) -> Self
         ensures { λ r. ⌜ r ≡ number self value ⌝ }
     {
         if 4294967295 < value {
             return self.refused();
         }
-        if self.numbers == 0 {
-            self.first = value as u32;
-            self.numbers = 1;
-            return self;
+        if 7 < self.numbers {
+            return self.refused();
         }
-        if self.numbers == 1 {
-            self.second = value as u32;
-            self.numbers = 2;
-            return self;
-        }
-        self.refused()
+        let v = self.values;
+        self.values = [v[1], v[2], v[3], v[4], v[5], v[6], v[7], value as u32];
+        self.numbers += 1;
+        self
     }
 
     // A word of 16 bits, kept where there is room.
@@ -184,17 +241,6 @@ impl Request {
             return line.refused();
         }
         line.phase = 2;
-        line
-    }
-
-    // The line is at its end.
-    pub fn ended(self, words: &mut [u16]) -> Self
-        ensures { λ r. ⌜ line-of r (now (words .exit)) ≡ finished (field-end self (now (words .entry))) ⌝ }
-    {
-        let line = self.field_ended(words);
-        if line.phase != 2 {
-            return line.refused();
-        }
         line
     }
 }

@@ -13,7 +13,7 @@ use Rattle.calculus.specs.Words.{words, longest}
 use Rattle.calculus.specs.Scan.{read}
 use Rattle.calculus.specs.Infer.{infer}
 use Rattle.calculus.specs.Run.{Ended, run-from}
-use Rattle.calculus.specs.Outcomes.{check-room, run-room, begun, cleared, verdict, checked, check, course, ran, run-by, run}
+use Rattle.calculus.specs.Outcomes.{check-room, run-room, begun, cleared, verdict, checked, check, alone, course, ran, run-by, run}
 use Rattle.calculus.proofs.Comparisons.{le-leb}
 use Rattle.calculus.proofs.Coding.{emit-append, words-length}
 use Rattle.calculus.proofs.NumberInjective.{number-not-zero}
@@ -115,7 +115,7 @@ module _ (ws W O : List ℕ) (room : check-room limit ≤ length W) (space : lim
       → longest ≤ length S
       → Numbered-check (check ws limit W O) n W₁ O₁
       → n .answer ≡ 0
-      → Numbered-run (run ws budget allowance W₁ S) m W₂ S₂
+      → Numbered-run (run ws budget 0 (alone allowance) W₁ S) m W₂ S₂
       → k ≡ span S₂ 1
       → Tells (told (judged ws)) (found n m k) O O₁ S S₂
   unfolding checked checked-numbers told course require _>>_ _>>=_ run-by ran ran-numbers
@@ -128,9 +128,9 @@ module _ (ws W O : List ℕ) (room : check-room limit ≤ length W) (space : lim
       on (typed {t} {τ} d) c =
           let x : Ended = run-from (min budget allowance) t in
           let clear : run-room ≤ length W₁ = omega (arith, ap length (c .work), length-cleared (check-room limit) W) in
-          let runs : run ws budget allowance W₁ S ≡ ran allowance W₁ S (ok x)
+          let runs : run ws budget 0 (alone allowance) W₁ S ≡ ran 0 (alone allowance) W₁ S (ok x)
           = rw (le-leb run-room (length W₁) clear, le-leb longest (length S) free, d) refl in
-          let r : Numbered-run (ran allowance W₁ S (ok x)) m W₂ S₂ = rw runs at g in
+          let r : Numbered-run (ran 0 (alone allowance) W₁ S (ok x)) m W₂ S₂ = rw runs at g in
           let count : k ≡ size (x .state) = e ∙ ap (λ l. span l 1) (r .state) ∙ begun-span (x .state) S in
           let type : take (n .length) O₁ ≡ words τ = ap₂ take (ap (λ y. y .length) (c .numbers)) (c .output) ∙ begun-words τ O in
           let state : take k S₂ ≡ words (x .state) = ap₂ take count (r .state) ∙ begun-words (x .state) S in

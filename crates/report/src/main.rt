@@ -1,4 +1,5 @@
 // The report program of document 01: reads a term as words of two bytes, low byte first, and prints its type and its run.
+use evaluation::Desk;
 use feguavy::feguavy_check;
 use feguavy::feguavy_run;
 use libc::STDIN_FILENO;
@@ -40,7 +41,7 @@ fn refused(answer: u32, place: u32) -> Findings
     }
 }
 
-// Limit 32, budget and allowance 1,000. "A refused term isn't run."
+// Limit 32, budget and allowance 1,000, caller 0. "A refused term isn't run."
 fn judge(term: &[u16], output: &mut [u16], state: &mut [u16]) -> Findings
     requires { ⌜ 32 ≤ length (now output) ⌝ }
     requires { ⌜ 1024 ≤ length (now state) ⌝ }
@@ -54,7 +55,7 @@ fn judge(term: &[u16], output: &mut [u16], state: &mut [u16]) -> Findings
         return refused(answer, checked.place);
     }
     let length = checked.length as usize;
-    let ran = feguavy_run(term, 1000, &mut work, state, 1000);
+    let ran = feguavy_run(term, 1000, &mut work, state, 0, Desk::alone(1000));
     Findings {
         answer: 0,
         place: 0,

@@ -1,5 +1,6 @@
 // A test program: checks and runs on slices of every boundary length, filled with garbage, one a line, with what the slices hold
 // afterwards.
+use evaluation::Desk;
 use feguavy::CheckedNumbers;
 use feguavy::RanNumbers;
 use feguavy::feguavy_check;
@@ -118,24 +119,37 @@ fn try_check(term: &[u16], limit: u32, work: &mut [u16], result: &mut [u16]) {
     print(text::filled(&out, all));
 }
 
-// A run on slices that hold garbage.
-fn ran(
-    term: &[u16],
+// Whose run it is, the steps asked for, and the desk.
+struct Asked {
+    caller: u32,
     budget: u32,
-    allowance: u32,
-    work: &mut [u16],
-    result: &mut [u16],
-) -> RanNumbers {
-    spoil(work);
-    spoil(result);
-    feguavy_run(term, budget, work, result, allowance)
+    desk: Desk,
 }
 
-// `run BUDGET ALLOWANCE | WORDS -> ANSWER PLACE END STEPS BETA MU CANCEL LEFT`.
-fn put_ran(term: &[u16], budget: u32, allowance: u32, r: RanNumbers, out: &mut [u8]) -> usize {
+// A run on slices that hold garbage.
+fn ran(term: &[u16], asked: Asked, work: &mut [u16], result: &mut [u16]) -> RanNumbers {
+    spoil(work);
+    spoil(result);
+    let desk = asked.desk;
+    feguavy_run(term, asked.budget, work, result, asked.caller, desk)
+}
+
+// `run CALLER BUDGET ALLOWANCE … | WORDS -> ANSWER PLACE END STEPS BETA MU CANCEL`, with the eight allowances.
+fn put_asked(term: &[u16], asked: Asked, out: &mut [u8]) -> usize {
     let named = text::bytes(b"run", out, 0);
-    let granted = text::numbers(&[budget, allowance], out, named);
-    let termed = put_term(term, out, granted);
+    let granted = text::numbers(&[asked.caller, asked.budget], out, named);
+    let desk = asked.desk;
+    let allowed = put_desk(desk, out, granted);
+    put_term(term, out, allowed)
+}
+
+fn put_desk(desk: Desk, out: &mut [u8], at: usize) -> usize {
+    let allowances = desk.allowances;
+    text::numbers(&allowances, out, at)
+}
+
+fn put_ran(term: &[u16], asked: Asked, r: RanNumbers, out: &mut [u8]) -> usize {
+    let termed = put_asked(term, asked, out);
     text::numbers(
         &[
             r.answer,
@@ -145,19 +159,20 @@ fn put_ran(term: &[u16], budget: u32, allowance: u32, r: RanNumbers, out: &mut [
             r.substitutions,
             r.unfoldings,
             r.cancellations,
-            r.allowance,
         ],
         out,
         termed,
     )
 }
 
-// A run, and the line that tells of it.
-fn try_run(term: &[u16], budget: u32, allowance: u32, work: &mut [u16], result: &mut [u16]) {
+// A run, and the line that tells of it, with ` left` and the desk afterwards.
+fn try_run(term: &[u16], asked: Asked, work: &mut [u16], result: &mut [u16]) {
     let mut out = [0u8; 16384];
-    let r = ran(term, budget, allowance, work, result);
-    let answered = put_ran(term, budget, allowance, r, &mut out);
-    let all = put_slices(work, result, &mut out, answered);
+    let r = ran(term, asked, work, result);
+    let answered = put_ran(term, asked, r, &mut out);
+    let named = text::bytes(b" left", &mut out, answered);
+    let left = put_desk(r.desk, &mut out, named);
+    let all = put_slices(work, result, &mut out, left);
     print(text::filled(&out, all));
 }
 
@@ -187,8 +202,7 @@ fn check_on(term: &[u16], limit: u32, room: usize, size: usize) {
 // A run on the first `room` and `size` words, where there are so many.
 fn run_parts(
     term: &[u16],
-    budget: u32,
-    allowance: u32,
+    asked: Asked,
     work: &mut [u16],
     room: usize,
     result: &mut [u16],
@@ -196,22 +210,16 @@ fn run_parts(
 ) {
     if room <= work.len() {
         if size <= result.len() {
-            try_run(
-                term,
-                budget,
-                allowance,
-                &mut work[..room],
-                &mut result[..size],
-            );
+            try_run(term, asked, &mut work[..room], &mut result[..size]);
         }
     }
 }
 
 // A run on slices of `room` and `size` words.
-fn run_on(term: &[u16], budget: u32, allowance: u32, room: usize, size: usize) {
+fn run_on(term: &[u16], asked: Asked, room: usize, size: usize) {
     let mut work = [0u16; 4099];
     let mut result = [0u16; RESULT];
-    run_parts(term, budget, allowance, &mut work, room, &mut result, size);
+    run_parts(term, asked, &mut work, room, &mut result, size);
 }
 
 // A check at each boundary length for a limit.
@@ -244,21 +252,40 @@ fn check_limits(term: &[u16]) {
 }
 
 // A run at each boundary length.
-fn run_all(term: &[u16], budget: u32, allowance: u32) {
-    run_on(term, budget, allowance, 4096, 1024);
-    run_on(term, budget, allowance, 4099, 1027);
-    run_on(term, budget, allowance, 4095, 1024);
-    run_on(term, budget, allowance, 4096, 1023);
-    run_on(term, budget, allowance, 4095, 1023);
-    run_on(term, budget, allowance, 0, 0);
+fn run_all(term: &[u16], asked: Asked) {
+    run_on(term, asked, 4096, 1024);
+    run_on(term, asked, 4099, 1027);
+    run_on(term, asked, 4095, 1024);
+    run_on(term, asked, 4096, 1023);
+    run_on(term, asked, 4095, 1023);
+    run_on(term, asked, 0, 0);
+}
+
+// A run of a caller whose neighbours have other allowances than it has; past the eighth there is none.
+fn run_for(term: &[u16], caller: u32, budget: u32, allowance: u32) {
+    let mut allowances = [11u32, 12, 13, 14, 15, 16, 17, 4294967295];
+    let at = caller as usize;
+    if at < 8 {
+        allowances[at] = allowance;
+    }
+    run_all(
+        term,
+        Asked {
+            caller,
+            budget,
+            desk: Desk { allowances },
+        },
+    );
 }
 
 fn run_budgets(term: &[u16]) {
-    run_all(term, 0, 7);
-    run_all(term, 1, 7);
-    run_all(term, 3, 2);
-    run_all(term, 1000, 4294967295);
-    run_all(term, 5, 0);
+    run_for(term, 0, 0, 7);
+    run_for(term, 3, 1, 7);
+    run_for(term, 7, 3, 2);
+    run_for(term, 0, 1000, 4294967295);
+    run_for(term, 6, 5, 0);
+    run_for(term, 8, 5, 0);
+    run_for(term, 4294967295, 1, 0);
 }
 
 fn all(term: &[u16]) {

@@ -12,7 +12,7 @@ use Rattle.term.specs.declared.Found.{Found}
 use Rattle.term.specs.declared.reading.Reading.{Reading}
 use Rattle.term.specs.declared.reading.Reading.the-variants as reading
 use Rattle.term.specs.declared.refusal.Reason.{Reason}
-use Rattle.term.specs.declared.refusal.Reason.the-variants.{LimitNotAllowed, WorkShort, OutputShort, LengthNotAllowed, NoMeaning, ListEnds, WordsAfter, Level65, Unbound, NotStar, NotProduct, WrongArgument, NoStep, WrongCast, WrongRecursion, OverLimit}
+use Rattle.term.specs.declared.refusal.Reason.the-variants.{LimitNotAllowed, WorkShort, OutputShort, LengthNotAllowed, NoMeaning, ListEnds, WordsAfter, Level65, Unbound, NotStar, NotProduct, WrongArgument, NoStep, WrongCast, WrongRecursion, OverLimit, CallerNotAllowed}
 use Rattle.term.specs.declared.word.Meaning.{Meaning}
 use Rattle.term.specs.declared.word.Meaning.the-variants.{Star, CastDown, Application, CastUp, Abstraction, Product, Recursion, Variable, Nothing}
 use Rattle.term.specs.Found.{found-of}
@@ -40,6 +40,11 @@ reasons =
     ∷ WrongCast
     ∷ WrongRecursion
     ∷ OverLimit
+    ∷ LimitNotAllowed
+    ∷ LimitNotAllowed
+    ∷ LimitNotAllowed
+    ∷ LimitNotAllowed
+    ∷ CallerNotAllowed
     ∷ []
 
 abbrev reason-from : calculus.Reason → Reason
@@ -63,6 +68,7 @@ reason-again NoStep = refl
 reason-again WrongCast = refl
 reason-again WrongRecursion = refl
 reason-again OverLimit = refl
+reason-again CallerNotAllowed = refl
 
 pub reason-of-injective : (a b : Reason) → reason-of a ≡ reason-of b → a ≡ b
 reason-of-injective = undone reason-of reason-from reason-again

@@ -1,8 +1,8 @@
--- The reasons of document 01 that the variants of `Reason` stand for, and so their numbers.
+-- The reasons of the papers that the variants of `Reason` stand for, and so their numbers.
 use Prim.Native.Nat.{ℕ}
 use Rattle.calculus.specs.Answer as calculus
 use Rattle.term.specs.declared.refusal.Reason.{Reason}
-use Rattle.term.specs.declared.refusal.Reason.the-variants.{LimitNotAllowed, WorkShort, OutputShort, LengthNotAllowed, NoMeaning, ListEnds, WordsAfter, Level65, Unbound, NotStar, NotProduct, WrongArgument, NoStep, WrongCast, WrongRecursion, OverLimit}
+use Rattle.term.specs.declared.refusal.Reason.the-variants.{LimitNotAllowed, WorkShort, OutputShort, LengthNotAllowed, NoMeaning, ListEnds, WordsAfter, Level65, Unbound, NotStar, NotProduct, WrongArgument, NoStep, WrongCast, WrongRecursion, OverLimit, CallerNotAllowed}
 
 abbrev pub reason-of : Reason → calculus.Reason
 reason-of LimitNotAllowed = calculus.limit-not-allowed
@@ -21,7 +21,8 @@ reason-of NoStep = calculus.no-step
 reason-of WrongCast = calculus.wrong-cast
 reason-of WrongRecursion = calculus.wrong-recursion
 reason-of OverLimit = calculus.over-limit
+reason-of CallerNotAllowed = calculus.caller-not-allowed
 
--- Document 01's number of each reason.
+-- The number of each reason.
 abbrev pub number-of : Reason → ℕ
 number-of r = calculus.number (reason-of r)

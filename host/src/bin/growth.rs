@@ -8,6 +8,7 @@
 //!     steps WORDS, first WORDS    1,001 steps of a state of that length, and one of them
 
 use feguavy::shapes::{redex, shape};
+use feguavy::{Caller, Desk};
 use std::hint::black_box;
 
 /// A state that steps to itself: a recursion in whose body the variable stands first.
@@ -21,7 +22,8 @@ fn main() {
     let mut work = vec![0; feguavy::check_work(feguavy::LARGEST_LIMIT)];
     let mut result = vec![0; feguavy::LONGEST];
     let mut run = |term: &[u16], budget| {
-        black_box(feguavy::run(black_box(term), budget, &mut work, &mut result, u32::MAX).answer.unwrap());
+        let ran = feguavy::run(black_box(term), budget, &mut work, &mut result, Caller::FIRST, Desk::alone(u32::MAX));
+        black_box(ran.answer.unwrap());
     };
     match kind.as_str() {
         "reading" => _ = black_box(feguavy::part(black_box(&shape(5, size, "balanced", 0)), 3).len()),

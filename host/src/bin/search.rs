@@ -1,10 +1,14 @@
 //! A search for slow inputs: `search SECONDS [SEED] < LINES`. Request lines are mutated and recombined; the slowest check and the
 //! slowest step found are printed as request lines with their nanoseconds, slowest first.
 
-use feguavy::{check_work, LARGEST_LIMIT, LONGEST};
+use feguavy::{check_work, Caller, Desk, LARGEST_LIMIT, LONGEST};
 use std::hint::black_box;
 use std::io::BufRead;
 use std::time::{Duration, Instant};
+
+/// The steps that are timed at most, of a run alone at the desk.
+const STEPS: u32 = 100;
+const DESK: Desk = Desk::alone(STEPS);
 
 /// A small generator of numbers.
 struct Numbers(u64);
@@ -29,15 +33,17 @@ impl Bench {
         self.least(|b| _ = black_box(feguavy::check(black_box(term), limit, &mut b.work, &mut b.result)))
     }
 
-    /// Nanoseconds of one step, over at most a hundred.
+    /// Nanoseconds of one step, over at most so many.
     fn step(&mut self, term: &[u16]) -> u64 {
-        let steps = match feguavy::run(term, 100, &mut self.work, &mut self.result, 100).answer {
+        let steps = match feguavy::run(term, STEPS, &mut self.work, &mut self.result, Caller::FIRST, DESK).answer {
             Ok(ended) if ended.steps > 0 => ended.steps as u64,
             _ => return 0,
         };
-        let run = |b: &mut Bench, budget| _ = black_box(feguavy::run(black_box(term), budget, &mut b.work, &mut b.result, 100));
+        let run = |b: &mut Bench, budget| {
+            _ = black_box(feguavy::run(black_box(term), budget, &mut b.work, &mut b.result, Caller::FIRST, DESK))
+        };
         let none = self.least(|b| run(b, 0));
-        self.least(|b| run(b, 100)).saturating_sub(none) / steps
+        self.least(|b| run(b, STEPS)).saturating_sub(none) / steps
     }
 
     fn least(&mut self, mut call: impl FnMut(&mut Bench)) -> u64 {

@@ -4,6 +4,7 @@
 //! The lines are read first; then each kind is called over and over for about that long, on slices that stay the same. The slowest
 //! is that of the lines, each by the least of five calls.
 
+use feguavy::{Caller, Desk};
 use std::hint::black_box;
 use std::io::BufRead;
 use std::time::Instant;
@@ -61,13 +62,14 @@ fn main() {
     if !runs.is_empty() {
         let mut steps = 0u64;
         let (calls, ns) = repeat(&runs, seconds, |c| {
-            let ran = black_box(feguavy::run(black_box(&c.words), c.first, &mut work, &mut result, c.second));
+            let desk = Desk::alone(c.second);
+            let ran = black_box(feguavy::run(black_box(&c.words), c.first, &mut work, &mut result, Caller::FIRST, desk));
             steps += ran.answer.map_or(0, |e| e.steps as u64);
         });
         let slowest = runs.iter().map(|c| {
             let mut taken = 0;
             let ns = least(|| {
-                let ran = feguavy::run(&c.words, c.first, &mut work, &mut result, c.second);
+                let ran = feguavy::run(&c.words, c.first, &mut work, &mut result, Caller::FIRST, Desk::alone(c.second));
                 taken = ran.answer.map_or(0, |e| e.steps);
             });
             if taken == 0 {

@@ -1,6 +1,6 @@
 //! The line protocol of docs/FORMAT.md, answered through this package.
 
-use feguavy::{check, check_work, part, Buffers, Checked, LARGEST_LIMIT};
+use feguavy::{check, check_work, part, Buffers, Caller, Checked, Desk, Refusal, LARGEST_LIMIT};
 use std::fmt::Write;
 
 fn put_words(answer: &mut String, words: &[u16]) {
@@ -10,54 +10,86 @@ fn put_words(answer: &mut String, words: &[u16]) {
     }
 }
 
-/// Slices for every request.
+fn refused(refusal: Refusal) -> String {
+    format!("refused {} {}", refusal.reason.number(), refusal.place)
+}
+
+/// Slices for every request, and the desk that the requests so far left.
 pub struct Slices {
     buffers: Buffers,
     work: Vec<u16>,
     output: Vec<u16>,
+    desk: Desk,
 }
 
 impl Slices {
     pub fn new() -> Slices {
         let work = vec![0; check_work(LARGEST_LIMIT)];
-        Slices { buffers: Buffers::for_limit(LARGEST_LIMIT), work, output: vec![0; LARGEST_LIMIT as usize] }
+        let output = vec![0; LARGEST_LIMIT as usize];
+        Slices { buffers: Buffers::for_limit(LARGEST_LIMIT), work, output, desk: Desk::alone(0) }
     }
 
     /// The answer to a request line; nothing where it is none.
     pub fn answer(&mut self, line: &str) -> Option<String> {
-        let (front, back) = line.split_once('|')?;
+        let (front, back) = line.split_once('|').unwrap_or((line, ""));
         let words: Vec<u16> = back.split_whitespace().map(|w| w.parse().ok()).collect::<Option<_>>()?;
-        let fields: Vec<&str> = front.split_whitespace().collect();
-        let number = |i: usize| fields.get(i).and_then(|f| f.parse::<u32>().ok());
-        let mut text = String::new();
-        match fields[0] {
-            "check" => match check(&words, number(1)?, &mut self.work, &mut self.output) {
-                Checked::Typed(n) => {
-                    text.push_str("typed");
-                    put_words(&mut text, &self.output[..n]);
+        let (verbs, numbers): (Vec<&str>, Vec<&str>) = front.split_whitespace().partition(|field| !field.starts_with(is_digit));
+        let numbers: Vec<u32> = numbers.iter().map(|n| n.parse().ok()).collect::<Option<_>>()?;
+        match (&verbs[..], &numbers[..]) {
+            (["check"], &[limit]) => Some(self.checked(&words, limit)),
+            ([verb @ ("run" | "kinds")], &[budget, allowance]) => {
+                Some(self.ran(&words, budget, Caller::FIRST, Desk::alone(allowance), *verb == "kinds").0)
+            }
+            (["part"], &[number]) => {
+                let mut text = "part".to_string();
+                put_words(&mut text, part(&words, number));
+                Some(text)
+            }
+            (["desk", "new"], _) => {
+                self.desk = Desk { allowances: numbers.try_into().ok()? };
+                Some("ok".to_string())
+            }
+            (["desk", "run"], &[caller, budget]) => match Caller::try_from(caller) {
+                Ok(caller) => {
+                    let (text, left) = self.ran(&words, budget, caller, self.desk, false);
+                    self.desk = left;
+                    Some(text)
                 }
-                Checked::Refused(r) => write!(text, "refused {} {}", r.reason.number(), r.place).unwrap(),
+                Err(refusal) => Some(refused(refusal)),
             },
-            verb @ ("run" | "kinds") => {
-                let (ran, state) = self.buffers.run(&words, number(1)?, number(2)?);
-                match ran.answer {
-                    Ok(ended) => {
-                        write!(text, "ran {} {}", ended.end.number(), ended.steps).unwrap();
-                        if verb == "kinds" {
-                            write!(text, " {} {} {}", ended.substitutions, ended.unfoldings, ended.cancellations).unwrap();
-                        }
-                        write!(text, " {}", ran.allowance).unwrap();
-                        put_words(&mut text, state);
-                    }
-                    Err(r) => write!(text, "refused {} {}", r.reason.number(), r.place).unwrap(),
-                }
-            }
-            "part" => {
-                text.push_str("part");
-                put_words(&mut text, part(&words, number(1)?));
-            }
-            _ => return None,
+            (["desk", "show"], []) => Some(self.desk.allowances.iter().fold("desk".to_string(), |text, a| format!("{text} {a}"))),
+            _ => None,
         }
-        Some(text)
     }
+
+    fn checked(&mut self, words: &[u16], limit: u32) -> String {
+        match check(words, limit, &mut self.work, &mut self.output) {
+            Checked::Typed(n) => {
+                let mut text = "typed".to_string();
+                put_words(&mut text, &self.output[..n]);
+                text
+            }
+            Checked::Refused(refusal) => refused(refusal),
+        }
+    }
+
+    /// The answer to a run, and the desk after it.
+    fn ran(&mut self, words: &[u16], budget: u32, caller: Caller, desk: Desk, kinds: bool) -> (String, Desk) {
+        let (ran, state) = self.buffers.run(words, budget, caller, desk);
+        let ended = match ran.answer {
+            Ok(ended) => ended,
+            Err(refusal) => return (refused(refusal), ran.desk),
+        };
+        let mut text = format!("ran {} {}", ended.end.number(), ended.steps);
+        if kinds {
+            write!(text, " {} {} {}", ended.substitutions, ended.unfoldings, ended.cancellations).unwrap();
+        }
+        write!(text, " {}", ran.desk.allowance_of(caller)).unwrap();
+        put_words(&mut text, state);
+        (text, ran.desk)
+    }
+}
+
+fn is_digit(c: char) -> bool {
+    c.is_ascii_digit()
 }

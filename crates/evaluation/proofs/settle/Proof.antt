@@ -10,15 +10,17 @@ use Rattle.evaluation.proofs.settle.Tie as tie
 
 slice-aggregate-copy : tie.Need-slice-aggregate-copy
 slice-aggregate-copy c =
-    let h = c .before .before .before .before .pre .3 .1 in
+    let h = c .before .before .before .before .pre .0 .2 .1 in
     simp length-take (omega (arith, h .front .extent, h .front .short))
 
 returns : tie.Need-returns
 returns c x h =
-    let copy = c .before .before .before .before .before .before .before .before in
+    let clear = c .before .before .before in
+    let copy = clear .before .before .before .before in
     rw (
-      c .before .before .before .before .clear .ensures,
-      copied-begun (copy .copy .ensures) (h .front) (copy .before .before .before .before .before .before .pre .1),
+      c .lowered .ensures,
+      clear .clear .ensures,
+      copied-begun (copy .copy .ensures) (h .front) (copy .before .before .before .before .before .before .pre .0 .1),
     )
     refl
 
@@ -26,5 +28,5 @@ pub settle-spec : {M : Type 1} → statement M
 settle-spec =
     tie.close
     (tie.spec
-    (λ c. search needs) slice-aggregate-copy (λ c κs. search needs) (λ c κs. search needs) (λ c. search needs) (λ c. search needs)
+    (λ c. search needs) slice-aggregate-copy (λ c κs. search needs) (λ c κs. search needs) (λ c κs. search needs) (λ c. search needs)
     (λ c. search needs) returns)

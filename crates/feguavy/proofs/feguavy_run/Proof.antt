@@ -10,22 +10,22 @@ use Rattle.feguavy.proofs.feguavy_run.Tie as tie
 
 cast-t21 : tie.Need-cast-t21
 cast-t21 c =
-    let b = c .before .before .before .before .before .before .before .before .before in
+    let b = c .before .before .before .before .before .before .before .before .before .before in
     let a = b .before .before .before .before .before .before .args in
-    let h = unrun-place (now (a .term)) (a .budget) (a .allowance) (now (a .work)) (now (a .state)) (b .run .result) (b .run .ensures .0) _ (c .before .before .before .answer2 .given .1) in
+    let h = unrun-place (now (a .term)) (a .budget) (a .caller) (a .desk .allowances) (now (a .work)) (now (a .state)) (b .run .result) (b .run .ensures .0) _ (c .before .before .before .answer2 .given .1) in
     omega arith
 
 returns : tie.Need-returns
 returns c =
-    let k = c .before .before .before .before .before .before .before .before .run in
+    let k = c .before .before .before .before .before .before .before .before .before .run in
     let numbered = ended-numbers (k .result) (k .ensures .0) _ _ _ (c .before .before .answer .given .1) (c .number-of-end .ensures) in
-    (numbered, (_, numbered, demand3 .0 _ _ _ _ _))
+    (numbered, (_, numbered, demand3 .0 _ _ _ _ _ _))
 
 returns-2 : tie.Need-returns-2
 returns-2 c =
-    let k = c .before .before .before .before .before .before .before .before .before .run in
+    let k = c .before .before .before .before .before .before .before .before .before .before .run in
     let numbered = unrun-numbers (k .result) (k .ensures .0) _ _ (c .before .before .before .answer2 .given .1) (c .before .number .ensures) in
-    (numbered, (_, numbered, demand3 .0 _ _ _ _ _))
+    (numbered, (_, numbered, demand3 .0 _ _ _ _ _ _))
 
 pub feguavy-run-spec : {M : Type 1} → statement M
 feguavy-run-spec =

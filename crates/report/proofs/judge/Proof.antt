@@ -1,4 +1,5 @@
--- `judge` meets its contract: the calls have the room that they ask for, and a refused term is not run.
+-- `judge` meets its contract: the calls have the room that they ask for, a refused term is not run, and the run is that of a caller
+-- alone at the desk.
 use Prim.Native.Nat.{ℕ, _≤_}
 use borrow.Author.Needs.{needs}
 use denote.Ref.{now}
@@ -26,7 +27,7 @@ returns c =
 returns-2 : tie.Need-returns-2
 returns-2 c =
     let run = c .before .before .before .before .before in
-    let else = run .before .before .before .before in
+    let else = run .before .before .before .before .before in
     let check = else .before .before .before .before in
     let start = check .before .before .before .before .before .before in
     let term = now (start .args .term) in
@@ -34,11 +35,13 @@ returns-2 c =
     let state = now (start .args .state) in
     accepted-tells term (replicate 16384 0) output room (start .pre .0) (check .feguavy-check .result) (run .feguavy-run .result)
     (c .span .result) state
-    (start .pre .1) (check .feguavy-check .ensures) (else .if1 .left) (run .feguavy-run .ensures .0) (c .span .ensures .0)
+    (start .pre .1) (check .feguavy-check .ensures) (else .if1 .left)
+    (rw (run .before .alone .ensures) at (run .feguavy-run .ensures .0)) (c .span .ensures .0)
 
 pub judge-spec : {M : Type 1} → statement M
 judge-spec =
     tie.close
     (tie.spec
     (λ c. search needs) (λ c κs. search needs) (λ c κs. search needs) (λ c. search needs) returns (λ c. search needs)
-    (λ c. search needs) (λ c κs. search needs) (λ c κs. search needs) (λ c. search needs) (λ c. search needs) returns-2)
+    (λ c. search needs) (λ c κs. search needs) (λ c κs. search needs) (λ c κs. search needs) (λ c. search needs)
+    (λ c. search needs) returns-2)

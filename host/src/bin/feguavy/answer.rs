@@ -4,7 +4,7 @@ use crate::input::{Held, Input, Room};
 use crate::json::{string, Object};
 use crate::options::{Command, Options};
 use crate::{complain, ACCEPTED, FAILED, REFUSED};
-use feguavy::{Buffers, Ended, Explanation, Fact, Reason, Refusal, Style, Variable};
+use feguavy::{Buffers, Caller, Desk, Ended, Explanation, Fact, Reason, Refusal, Style, Variable};
 use std::fmt::{Arguments, Write as _};
 use std::io::{self, Write};
 
@@ -38,21 +38,24 @@ impl Answers {
     }
 }
 
+/// The desk of a run that its budget alone limits.
+pub const AMPLE: Desk = Desk::alone(u32::MAX);
+
 /// What a thread needs to answer.
-pub struct Desk<'a> {
+pub struct Worker<'a> {
     pub form: Form<'a>,
     buffers: Buffers,
     room: Room,
 }
 
-impl<'a> Desk<'a> {
-    pub fn new(options: &'a Options) -> Desk<'a> {
-        Desk { form: Form::of(options), buffers: Buffers::for_limit(options.limit), room: Room::default() }
+impl<'a> Worker<'a> {
+    pub fn new(options: &'a Options) -> Worker<'a> {
+        Worker { form: Form::of(options), buffers: Buffers::for_limit(options.limit), room: Room::default() }
     }
 
     pub fn answer(&mut self, input: &Input, answers: &mut Answers) {
         answers.count += 1;
-        let Desk { form, buffers, room } = self;
+        let Worker { form, buffers, room } = self;
         let Some(term) = form.read(input, room, answers) else { return };
         match form.options.command {
             Command::Check => match buffers.type_of(term) {
@@ -64,7 +67,7 @@ impl<'a> Desk<'a> {
                 Err(refusal) => form.explained(input, &form.style.explain(term, refusal, form.options.limit), answers),
             },
             Command::Run => {
-                let (ran, state) = buffers.run(term, form.options.budget, u32::MAX);
+                let (ran, state) = buffers.run(term, form.options.budget, Caller::FIRST, AMPLE);
                 match ran.answer {
                     Ok(ended) => {
                         let text = form.text(state);

@@ -1,6 +1,6 @@
 //! Many inputs on all cores: the answers come in the order of the inputs.
 
-use crate::answer::{Answers, Desk};
+use crate::answer::{Answers, Worker};
 use crate::options::Options;
 use std::collections::BTreeMap;
 use std::io::{self, IsTerminal, Write};
@@ -20,10 +20,10 @@ pub fn each(options: &Options, output: &mut (impl Write + Send), status: &mut u8
     let progress = Progress::of(options.inputs.len());
     let order = Mutex::new(Order { output, progress, due: 0, early: BTreeMap::new(), status: 0, written: Ok(()) });
     let work = || {
-        let mut desk = Desk::new(options);
+        let mut worker = Worker::new(options);
         while let Some((at, chunk)) = Some(next.fetch_add(1, Ordering::Relaxed)).and_then(|at| Some((at, chunks.get(at)?))) {
             let mut answers = Answers::default();
-            chunk.iter().for_each(|input| desk.answer(input, &mut answers));
+            chunk.iter().for_each(|input| worker.answer(input, &mut answers));
             let goes_on = order.lock().expect("no thread panics").take(at, answers);
             if !goes_on {
                 break;

@@ -1,19 +1,19 @@
 //! The states of a run, one by one, each with the rule by which it was reached.
 
-use crate::answer::{ended_object, named, Answers, Desk, Form};
+use crate::answer::{ended_object, named, Answers, Form, Worker, AMPLE};
 use crate::input::Input;
 use crate::json::string;
 use crate::options::Options;
 use crate::ACCEPTED;
-use feguavy::{Buffers, End, Ended, Kind, Refusal};
+use feguavy::{Buffers, Caller, End, Ended, Kind, Refusal};
 use std::io::{self, Write};
 
 pub fn each(options: &Options, output: &mut impl Write, status: &mut u8) -> io::Result<()> {
-    let mut desk = Desk::new(options);
-    let form = desk.form;
+    let mut worker = Worker::new(options);
+    let form = worker.form;
     for input in &options.inputs {
         let mut answers = Answers::default();
-        if let Some(term) = desk.read(input, &mut answers) {
+        if let Some(term) = worker.read(input, &mut answers) {
             if let Err(refusal) = trace(form, input, term, output)? {
                 form.refused(input, refusal, &mut answers);
             }
@@ -33,7 +33,7 @@ fn trace(form: Form, input: &Input, term: &[u16], output: &mut impl Write) -> io
     let mut before = None;
     let mut budget = 0;
     loop {
-        let (ran, state) = buffers.run(term, budget, u32::MAX);
+        let (ran, state) = buffers.run(term, budget, Caller::FIRST, AMPLE);
         let ended = match ran.answer {
             Ok(ended) => ended,
             Err(refusal) => return Ok(Err(refusal)),

@@ -1,39 +1,37 @@
 -- `proper` meets its contract: its tests are those of `is-request`, in the same order.
-use mathlib.Core.Path.{sym, _∙_}
+use mathlib.Core.Bool.{_||_}
+use mathlib.Core.Logic.{⊎-elim}
+use mathlib.Core.Path.{_≡_, sym, _∙_}
 use borrow.Author.Needs.{needs}
-use Rattle.protocol.proofs.Requesting.{wrong, of-run, of-check, of-part, of-no-number}
+use Rattle.protocol.specs.Forms.{asks-check, asks-part, is-run, is-request}
+use Rattle.protocol.proofs.Requesting.{first-test, second-test}
 use Rattle.protocol.proofs.answer.proper.Statement.{statement}
 use Rattle.protocol.proofs.answer.proper.Tie as tie
 
+-- The first two tests.
+both-tests : (c : tie.Joined1) → let q = c .before .before .args .request in c .if1 .if2 ≡ is-run q || asks-check q
+both-tests c =
+    let q = c .before .before .args .request in
+    let runs = c .before .runs .ensures in
+    ⊎-elim
+    (λ h. let (t, e) = h in e ∙ runs ∙ first-test (is-run q) (asks-check q) (sym runs ∙ t .taken))
+    (λ h. let (l, k, e) = h in e ∙ k .ensures ∙ second-test (is-run q) (asks-check q) (sym runs ∙ l .left))
+    (c .if1 .came)
+
 returns : tie.Need-returns
-returns c = wrong (c .before .args .request) (c .if1 .taken)
+unfolding is-request
+returns c =
+    let tests = c .before in
+    let q = tests .before .before .args .request in
+    let two = both-tests tests in
+    two ∙ first-test (is-run q || asks-check q) (asks-part q) (sym two ∙ c .if2 .taken)
 
 returns-2 : tie.Need-returns-2
+unfolding is-request
 returns-2 c =
-    let runs = c .before in
-    of-run (runs .before .before .args .request) (runs .before .if1 .left) (sym (runs .runs .ensures) ∙ c .if2 .taken)
-
-returns-3 : tie.Need-returns-3
-returns-3 c =
-    let one = c .before in
-    let other = one .before in
-    let runs = other .before in
-    of-check (runs .before .before .args .request) (runs .before .if1 .left) (sym (runs .runs .ensures) ∙ other .if2 .left) (one .if3 .taken)
-    (c .if4 .taken)
-
-returns-4 : tie.Need-returns-4
-returns-4 c =
-    let one = c .before in
-    let other = one .before in
-    let runs = other .before in
-    of-part (runs .before .before .args .request) (runs .before .if1 .left) (sym (runs .runs .ensures) ∙ other .if2 .left) (one .if3 .taken)
-    (c .if4 .left)
-
-returns-5 : tie.Need-returns-5
-returns-5 c =
-    let other = c .before in
-    let runs = other .before in
-    of-no-number (runs .before .before .args .request) (runs .before .if1 .left) (sym (runs .runs .ensures) ∙ other .if2 .left) (c .if3 .left)
+    let tests = c .before .before in
+    let q = tests .before .before .args .request in
+    c .asks2 .ensures ∙ second-test (is-run q || asks-check q) (asks-part q) (sym (both-tests tests) ∙ c .before .if2 .left)
 
 pub proper-spec : {M : Type 1} → statement M
-proper-spec = tie.close (tie.spec returns (λ c κs. search needs) returns-2 returns-3 returns-4 returns-5)
+proper-spec = tie.close (tie.spec (λ c κs. search needs) (λ c κs. search needs) (λ c κs. search needs) returns returns-2)

@@ -1,15 +1,24 @@
--- `runs` meets its contract: the verb is one or else the other.
-use mathlib.Core.Path.{refl}
-use borrow.Author.Tests.{eq-eqb, ne-eqb}
-use Rattle.protocol.specs.Answers.{run-verb}
+-- `runs` meets its contract: the line is of one form or else of the other.
+use mathlib.Core.Path.{sym, _∙_}
+use borrow.Author.Needs.{needs}
+use Rattle.protocol.specs.Forms.{asks-run, asks-kinds, is-run}
+use Rattle.protocol.proofs.Requesting.{first-test, second-test}
 use Rattle.protocol.proofs.answer.runs.Statement.{statement}
 use Rattle.protocol.proofs.answer.runs.Tie as tie
 
 returns : tie.Need-returns
-returns c = rw (eq-eqb (c .before .args .verb) run-verb (c .if1 .taken)) refl
+unfolding is-run
+returns c =
+    let asks = c .before in
+    let q = asks .before .args .request in
+    asks .asks .ensures ∙ first-test (asks-run q) (asks-kinds q) (sym (asks .asks .ensures) ∙ c .if1 .taken)
 
 returns-2 : tie.Need-returns-2
-returns-2 c = rw (ne-eqb (c .before .args .verb) run-verb (c .if1 .left)) refl
+unfolding is-run
+returns-2 c =
+    let asks = c .before .before in
+    let q = asks .before .args .request in
+    c .asks2 .ensures ∙ second-test (asks-run q) (asks-kinds q) (sym (asks .asks .ensures) ∙ c .before .if1 .left)
 
 pub runs-spec : {M : Type 1} → statement M
-runs-spec = tie.close (tie.spec returns returns-2)
+runs-spec = tie.close (tie.spec (λ c κs. search needs) (λ c κs. search needs) returns returns-2)

@@ -3,7 +3,7 @@ use mathlib.Core.Path.{_∙_, ap}
 use borrow.Author.Needs.{needs}
 use denote.Ref.{now}
 use Rattle.protocol.specs.Requests.{line-of}
-use Rattle.protocol.proofs.Fields.{no-field, verb-end, number-end, word-end}
+use Rattle.protocol.proofs.Fields.{no-field, letters-end, number-end, word-end}
 use Rattle.protocol.proofs.request.Request.field_ended.Statement.{statement}
 use Rattle.protocol.proofs.request.Request.field_ended.Tie as tie
 
@@ -14,9 +14,11 @@ returns c =
 
 returns-2 : tie.Need-returns-2
 returns-2 c =
-    let some = c .before .before in
+    let test = c .before in
+    let some = test .before .before in
     let args = some .before .before .before .args in
-    verb-end (args .self) (now (args .words)) (some .if1 .left) (c .if2 .taken)
+    let ws = now (args .words) in
+    ap (λ q. line-of q ws) (c .named .ensures) ∙ letters-end (args .self) ws (some .if1 .left) (test .if2 .taken)
 
 returns-3 : tie.Need-returns-3
 returns-3 c =
@@ -41,4 +43,4 @@ pub field-ended-spec : {M : Type 1} → statement M
 field-ended-spec =
     tie.close
     (tie.spec
-    returns returns-2 (λ c κs. search needs) returns-3 (λ c κs. search needs) (λ c. search needs) returns-4)
+    returns (λ c κs. search needs) returns-2 (λ c κs. search needs) returns-3 (λ c κs. search needs) (λ c. search needs) returns-4)

@@ -1,0 +1,2 @@
+-- The laws of this crate that its proofs use.
+pub mod Taking
