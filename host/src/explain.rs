@@ -40,15 +40,15 @@ pub fn explain(term: &[u16], refusal: Refusal, limit: u32) -> Explanation {
 impl Style {
     /// Explains why a check of a term at a limit is refused. Of refusals 10 to 16 every type is one that the proved check answers to
     /// a question: the type of an open part is asked for under abstractions over its context, and what a type steps to by a cast.
-    /// A refusal that is not the answer to that term at that limit is not explained, but said to be none; refusals 2 and 3 depend on
-    /// the slices, and are taken as they are.
+    /// A refusal that is not the answer to that term at that limit is not explained, but said to be none; refusals 2, 3 and 21 depend on
+    /// the slices and on the caller of a run, and are taken as they are.
     pub fn explain(&self, term: &[u16], refusal: Refusal, limit: u32) -> Explanation {
         let mut explanation = Explanation::of(refusal);
         if let Some(message) = another_answer(term, refusal, limit) {
             return Explanation { message, complete: false, ..explanation };
         }
         match Tree::of(term) {
-            Ok(tree) if refusal.reason.number() >= 8 => {
+            Ok(tree) if refusal.reason.number() >= 8 && refusal.reason.has_place() => {
                 let names = Names::of(&tree, Scope::default());
                 let near = (term.len() > LONG).then_some(refusal.place);
                 let style = Style { width: self.width.saturating_sub(MARGIN), ..*self };
@@ -70,7 +70,7 @@ impl Style {
 /// What a check answers, if it is not that refusal.
 fn another_answer(term: &[u16], refusal: Refusal, limit: u32) -> Option<String> {
     let at = match refusal.reason.number() {
-        2 | 3 => return None,
+        2 | 3 | 21 => return None,
         // a run, too, refuses by these, and has no limit
         4..=9 => LARGEST_LIMIT,
         _ => limit,

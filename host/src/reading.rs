@@ -1,4 +1,4 @@
-//! Refusals 1 to 9 in words: what is wrong with a call, or with a list that is read as no closed term.
+//! Refusals 1 to 9 and 21 in words: what is wrong with a call, or with a list that is read as no closed term.
 
 use crate::show::{Sign, Style};
 use crate::word::{self, VARIABLE};
@@ -21,6 +21,7 @@ pub(crate) fn message(term: &[u16], refusal: Refusal, limit: u32) -> String {
             "A check needs an output slice of as many words as the limit, a run a state slice of 1,024 words.".to_string()
         }
         Reason::LengthNotAllowed => format!("The list has {} words, and a term has 1 to 1,024.", term.len()),
+        Reason::CallerNotAllowed => "A run names one of the eight callers of the desk, 0 to 7.".to_string(),
         Reason::NoMeaning => {
             let word = term[place];
             format!("The word {word} means nothing where {awaited}: nodes are 0 to 6, and variables 16 to 2,047.")

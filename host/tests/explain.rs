@@ -185,6 +185,9 @@ fn calls() {
     assert_eq!(of(Reason::LimitNotAllowed, 0).message, "The limit is 0, and must be from 1 to 1,024.");
     assert!(of(Reason::WorkShort, 1).message.contains("4,096"));
     assert!(of(Reason::OutputShort, 1).message.contains("1,024"));
+    let caller = of(Reason::CallerNotAllowed, 1);
+    assert_eq!(caller.message, "A run names one of the eight callers of the desk, 0 to 7.");
+    assert!(caller.complete && caller.shown.is_none() && caller.facts.is_empty());
 }
 
 #[test]
@@ -301,7 +304,7 @@ fn of_anything() {
             let explanation = explain(&list, refusal, limit);
             assert!(explanation.complete && !explanation.message.contains("does not answer so"), "{list:?}");
         }
-        let other = Refusal { reason: Reason::ALL[below(16)], place: below(16) };
+        let other = Refusal { reason: Reason::ALL[below(Reason::ALL.len())], place: below(16) };
         if explain(&list, other, limit).message.is_empty() {
             panic!("{list:?} {other} {limit}");
         }

@@ -1,4 +1,6 @@
 // The answer to a request that depends on none before it, as one line of text.
+use crate::request::BARRED;
+use crate::request::NONE;
 use crate::request::Request;
 use evaluation::Desk;
 use feguavy::RanNumbers;
@@ -152,7 +154,7 @@ pub fn asks(request: Request, topic: u64, verb: u64, numbers: u32, phase: u32) -
 fn runs(request: Request) -> bool
     ensures { λ r. ⌜ r ≡ is-run request ⌝ }
 {
-    asks(request, 0, RUN, 2, 2) || asks(request, 0, KINDS, 2, 2)
+    asks(request, NONE, RUN, 2, BARRED) || asks(request, NONE, KINDS, 2, BARRED)
 }
 
 // The steps granted to the run that the request asks for, 0 where it asks for none.
@@ -175,7 +177,7 @@ pub fn granted(request: Request) -> u32
 pub fn proper(request: Request) -> bool
     ensures { λ r. ⌜ r ≡ is-request request ⌝ }
 {
-    runs(request) || asks(request, 0, CHECK, 1, 2) || asks(request, 0, PART, 1, 2)
+    runs(request) || asks(request, NONE, CHECK, 1, BARRED) || asks(request, NONE, PART, 1, BARRED)
 }
 
 // The answer, or `error` where the line is no request.
@@ -185,16 +187,16 @@ pub fn line(request: Request, words: &[u16], work: &mut [u16], out: &mut [u8], a
 {
     let term = front(words, request.count);
     let last = request.last();
-    if asks(request, 0, CHECK, 1, 2) {
+    if asks(request, NONE, CHECK, 1, BARRED) {
         return checked(term, last, work, out, at);
     }
-    if asks(request, 0, RUN, 2, 2) {
+    if asks(request, NONE, RUN, 2, BARRED) {
         return ran(term, request.before_last(), last, false, work, out, at);
     }
-    if asks(request, 0, KINDS, 2, 2) {
+    if asks(request, NONE, KINDS, 2, BARRED) {
         return ran(term, request.before_last(), last, true, work, out, at);
     }
-    if asks(request, 0, PART, 1, 2) {
+    if asks(request, NONE, PART, 1, BARRED) {
         return parted(term, last, out, at);
     }
     text::bytes(b"error", out, at)

@@ -3,6 +3,8 @@ use crate::answer;
 use crate::answer::RUN;
 use crate::answer::asks;
 use crate::answer::run_line;
+use crate::request::BARE;
+use crate::request::BARRED;
 use crate::request::DESK;
 use crate::request::Request;
 use evaluation::Desk;
@@ -60,7 +62,7 @@ fn shown(desk: Desk, out: &mut [u8], at: usize) -> usize
 pub fn granted(request: Request, desk: Desk) -> u32
     ensures { λ r. ⌜ r ≡ granted-at request (desk .allowances) ⌝ }
 {
-    if !asks(request, DESK, RUN, 2, 2) {
+    if !asks(request, DESK, RUN, 2, BARRED) {
         return answer::granted(request);
     }
     let budget = request.last();
@@ -84,19 +86,19 @@ fn line(
     ensures { λ r. ⌜ Serves (served request (desk .allowances) (now (words .entry)) (now (work .entry)))
         (now (work .exit)) (now (out .entry)) at r (now (out .exit)) ⌝ }
 {
-    if asks(request, DESK, NEW, 8, 1) {
+    if asks(request, DESK, NEW, 8, BARE) {
         let allowances = request.values;
         return Served {
             end: text::bytes(b"ok", out, at),
             desk: Desk { allowances },
         };
     }
-    if asks(request, DESK, RUN, 2, 2) {
+    if asks(request, DESK, RUN, 2, BARRED) {
         let term = front(words, request.count);
         let caller = request.before_last();
         return ran(term, request.last(), caller, desk, work, out, at);
     }
-    if asks(request, DESK, SHOW, 0, 1) {
+    if asks(request, DESK, SHOW, 0, BARE) {
         return Served {
             end: shown(desk, out, at),
             desk,

@@ -22,8 +22,15 @@ ghost use Rattle.protocol.specs.Requests.{
   line-length,
 };
 
-// The topic `desk`, its letters as one number.
+// The topics, their letters as one number: none, and `desk`.
+pub const NONE: u64 = 0;
+
 pub const DESK: u64 = 1684370283;
+
+// The phases in which a line may end: without words, and behind the bar.
+pub const BARE: u32 = 1;
+
+pub const BARRED: u32 = 2;
 
 // What is known of a line so far.
 pub struct Request {
