@@ -16,6 +16,9 @@
 //! assert_eq!(explain(&[1, 0], refusal, 64).message, "The body's type must take a step, and does not: it is a value.");
 //! ```
 //!
+//! A run takes its steps from a [`Desk`], on which each of eight callers has an allowance of its own, and hands the desk back for the
+//! next run: nobody drains another's.
+//!
 //! What is proved is what the archive answers: [`check`], [`run`] and [`part`]. What is shown and explained is put together here,
 //! and tested; every type that an explanation names is one that [`check`] answered. The command `feguavy` of this package does the
 //! same from a shell.
