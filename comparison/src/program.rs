@@ -5,6 +5,23 @@ use reference::proto::Server;
 use std::io::Write;
 use std::process::{Command, Stdio};
 
+/// What a comparison with a program is asked for: `SEED COUNT PROGRAM`.
+pub struct Asked {
+    pub seed: u64,
+    pub count: usize,
+    pub program: String,
+}
+
+impl Asked {
+    /// From the arguments; nothing where they are others.
+    pub fn of(mut arguments: impl Iterator<Item = String>) -> Option<Asked> {
+        let seed = arguments.next()?.parse().ok()?;
+        let count = arguments.next()?.parse().ok()?;
+        let program = arguments.next()?;
+        arguments.next().is_none().then_some(Asked { seed, count, program })
+    }
+}
+
 /// What a program answers to lines of requests, a line each.
 pub fn answers_of_program(program: &str, lines: &[String]) -> Result<Vec<String>, String> {
     let child = Command::new(program).stdin(Stdio::piped()).stdout(Stdio::piped()).spawn();
@@ -47,8 +64,8 @@ fn kind(answer: &str) -> Option<(&'static str, u32)> {
     }
 }
 
-/// The kinds of the answers, each with its number, or the first that differ: `all` says how many lines there are, and every line has
-/// an answer.
+/// The kinds of the answers, each with its number, or the first that differ. An error, too, where the lines and their answers are not as
+/// many.
 pub fn agreed(lines: &[String], proved: &[String], reference: &[String]) -> Result<Vec<(&'static str, u32)>, String> {
     if proved.len() > lines.len() {
         return Err(format!("{} answers to {} requests", proved.len(), lines.len()));
@@ -72,6 +89,15 @@ mod tests {
 
     fn lines() -> Vec<String> {
         ["check 5 | 4 0 16", "part 1 | 0", "desk new 1 2 3 4 5 6 7 8", "desk show"].map(str::to_string).to_vec()
+    }
+
+    #[test]
+    fn a_seed_a_count_and_a_program_are_asked_for() {
+        let asked = |line: &str| Asked::of(line.split_whitespace().map(str::to_string));
+        assert!(asked("7 300 batch").is_some_and(|asked| (asked.seed, asked.count, &asked.program[..]) == (7, 300, "batch")));
+        for line in ["", "7", "7 300", "x 300 batch", "7 -1 batch", "7 300 batch 8"] {
+            assert!(asked(line).is_none(), "{line}");
+        }
     }
 
     #[test]

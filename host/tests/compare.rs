@@ -1,4 +1,4 @@
-//! The stored requests of `batch`, answered through this package as stored.
+//! The stored requests of `batch` and `serial`, answered through this package as stored.
 
 mod lines;
 
@@ -6,23 +6,34 @@ use lines::Slices;
 use std::collections::BTreeMap;
 use std::path::Path;
 
+/// How many of a program's stored requests were answered as stored, by their first words.
+fn compared(program: &str) -> BTreeMap<String, u32> {
+    let folder = Path::new(env!("CARGO_MANIFEST_DIR")).join("../crates").join(program);
+    // one of the lines is no text
+    let stored = |name: &str| String::from_utf8_lossy(&std::fs::read(folder.join(name)).unwrap()).into_owned();
+    let (lines, answers) = (stored("stdin"), stored("stdout"));
+    assert_eq!(lines.lines().count(), answers.lines().count());
+    let (mut slices, mut compared) = (Slices::new(), BTreeMap::new());
+    // what is no request is for the program to tell
+    for (line, theirs) in lines.lines().zip(answers.lines()).filter(|(_, theirs)| *theirs != "error") {
+        assert_eq!(slices.answer(line).as_deref(), Some(theirs), "{line}");
+        let verbs: Vec<&str> = line.split_whitespace().take_while(|field| field.starts_with(char::is_alphabetic)).collect();
+        *compared.entry(verbs.join(" ")).or_default() += 1;
+    }
+    println!("requests of {program} compared: {compared:?}");
+    compared
+}
+
 #[test]
 fn requests() {
-    // one of the lines is no text
-    let stored = |name: &str| std::fs::read(Path::new(env!("CARGO_MANIFEST_DIR")).join("../crates/batch").join(name)).unwrap();
-    let (lines, answers) = (stored("stdin"), stored("stdout"));
-    let (lines, answers) = (String::from_utf8_lossy(&lines), String::from_utf8_lossy(&answers));
-    assert_eq!(lines.lines().count(), answers.lines().count());
-    let mut slices = Slices::new();
-    // what is no request is for `batch` to tell
-    let requests = lines.lines().zip(answers.lines()).filter(|(_, theirs)| *theirs != "error");
-    let mut compared = BTreeMap::from(["check", "run", "kinds", "part"].map(|verb| (verb, 0)));
-    for (line, theirs) in requests {
-        if let Some(ours) = slices.answer(line) {
-            assert_eq!(ours, theirs, "{line}");
-            *compared.get_mut(line.split_whitespace().next().unwrap()).unwrap() += 1;
-        }
-    }
-    println!("requests compared: {compared:?}");
+    let compared = compared("batch");
+    assert_eq!(compared.keys().collect::<Vec<_>>(), ["check", "kinds", "part", "run"]);
     assert!(compared.values().sum::<u32>() > 1000 && compared.values().all(|&count| count > 20));
+}
+
+#[test]
+fn sequences() {
+    let compared = compared("serial");
+    assert_eq!(compared.keys().collect::<Vec<_>>(), ["check", "desk new", "desk run", "desk show", "kinds", "part", "run"]);
+    assert!(compared["desk run"] > 100 && compared["desk show"] > 100);
 }

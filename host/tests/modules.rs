@@ -112,6 +112,8 @@ fn arguments_that_are_no_request() {
         &["run", "1"],
         &["kinds", "1"],
         &["walk", "1"],
+        &["desk", "show"],
+        &["desk", "run", "0", "5"],
         &["check", &long],
     ] {
         let output = folder.run(arguments, b"missing\n", Stdio::piped());

@@ -1,7 +1,7 @@
 //! Random requests of the line protocol, answered by the proved program `batch` and by the reference: `requests SEED COUNT BATCH`.
 //! Exit status 1 where an answer line differs, or where what was compared is too little (`Tally::covering`).
 
-use comparison::program::{agreed, answers_of_program, answers_of_reference};
+use comparison::program::{agreed, answers_of_program, answers_of_reference, Asked};
 use comparison::request::{Request, Requests};
 use comparison::tally::{report, Tally};
 use std::process::ExitCode;
@@ -20,16 +20,13 @@ fn compare(requests: &[Request], proved: &[String], reference: &[String]) -> Res
 }
 
 fn main() -> ExitCode {
-    let arguments: Vec<String> = std::env::args().skip(1).collect();
-    let (Some(Ok(seed)), Some(Ok(count)), Some(batch)) =
-        (arguments.first().map(|a| a.parse()), arguments.get(1).map(|a| a.parse()), arguments.get(2))
-    else {
+    let Some(Asked { seed, count, program }) = Asked::of(std::env::args().skip(1)) else {
         eprintln!("requests SEED COUNT BATCH");
         return ExitCode::from(2);
     };
     let requests: Vec<Request> = Requests::of_seed(seed).take(count).collect();
     let lines = lines(&requests);
-    let compared = answers_of_program(batch, &lines).and_then(|ours| compare(&requests, &ours, &answers_of_reference(&lines)));
+    let compared = answers_of_program(&program, &lines).and_then(|ours| compare(&requests, &ours, &answers_of_reference(&lines)));
     report("requests", seed, compared)
 }
 

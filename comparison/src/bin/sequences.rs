@@ -3,7 +3,7 @@
 //! what was compared is too little.
 
 use comparison::grant::needed;
-use comparison::program::{agreed, answers_of_program, answers_of_reference};
+use comparison::program::{agreed, answers_of_program, answers_of_reference, Asked};
 use comparison::request::{Request, Requests};
 use feguavy::CALLERS;
 use reference::gen::Rng;
@@ -101,15 +101,12 @@ fn compare(lines: &[String], proved: &[String], reference: &[String]) -> Result<
 }
 
 fn main() -> ExitCode {
-    let arguments: Vec<String> = std::env::args().skip(1).collect();
-    let (Some(Ok(seed)), Some(Ok(count)), Some(serial)) =
-        (arguments.first().map(|a| a.parse()), arguments.get(1).map(|a| a.parse()), arguments.get(2))
-    else {
+    let Some(Asked { seed, count, program }) = Asked::of(std::env::args().skip(1)) else {
         eprintln!("sequences SEED COUNT SERIAL");
         return ExitCode::from(2);
     };
     let lines: Vec<String> = Lines::of_seed(seed).take(count).collect();
-    match answers_of_program(serial, &lines).and_then(|ours| compare(&lines, &ours, &answers_of_reference(&lines))) {
+    match answers_of_program(&program, &lines).and_then(|ours| compare(&lines, &ours, &answers_of_reference(&lines))) {
         Ok(tally) => {
             // how many there are of a verb, of any answer or of one
             let of = |verb: &str, answer: Option<(&str, u32)>| -> usize {

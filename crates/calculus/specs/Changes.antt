@@ -26,8 +26,8 @@ abbrev pub OneForOne : Type 0
 OneForOne = (g n : ℕ) (x : Term) (E E′ F F′ : End) → Becomes g n x E E′ → Becomes g n x F F′ → (E ≡ F) ↔ (E′ ≡ F′)
 
 -- `EndChanged ws g S before after`: a run of the words `ws` within the grant `g`, lent the state slice S, came to `before` and comes
--- to `after`. A refused run is the same. Of the others "[...] their steps and words stay": of a run that ends, its steps and counts, the desk
--- and every word of both slices are the same.
+-- to `after`. A refused run is the same. Of the others "[...] their steps and words stay": of a run that ends, its steps and counts,
+-- the desk and every word of both slices are the same.
 pub data EndChanged (ws : List ℕ) (g : ℕ) (S : List ℕ) : Ran → Ran → Type 0 where
   refused-alike : {r : Reason} {p : ℕ} {desk : Desk} {W T : List ℕ}
       → EndChanged ws g S (record { answer = refused r p; desk = desk; work = W; state = T })

@@ -23,8 +23,8 @@ pub record Safe (τ x : Term) : Type 0 where
   pub progress : (Value x × ¬ CanStep x) ⊎ (¬ Value x × ((y : Term) × Only (λ z. x ⟶ z) y))
 
 -- What a run answers that begins at `t`, whose type a check answered to be τ. "A refused run has no states and no end"; here it is
--- refused only for its caller or a short slice. "So the run ends only at a value, with its grant used, or before a state over 1,024 words": by
--- `Ends`, with its grant used at a state that can step.
+-- refused only for its caller or a short slice. "So the run ends only at a value, with its grant used, or before a state over 1,024
+-- words": by `Ends`, with its grant used at a state that can step.
 pub data Safely (t τ : Term) (caller g : ℕ) (W S : List ℕ) : Answer Stop → Type 0 where
   caller-refused : last-caller < caller → Safely t τ caller g W S (refused caller-not-allowed 0)
   work-refused : caller ≤ last-caller → length W < run-room → Safely t τ caller g W S (refused work-short 0)
