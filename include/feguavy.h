@@ -14,17 +14,17 @@
 extern "C" {
 #endif
 
-#define FEGUAVY_VERSION_MAJOR 3
+#define FEGUAVY_VERSION_MAJOR 4
 #define FEGUAVY_VERSION_MINOR 0
 #define FEGUAVY_VERSION_PATCH 0
-#define FEGUAVY_VERSION "3.0.0"
+#define FEGUAVY_VERSION "4.0.0"
 
 /* The largest limit, the longest term or state, and the working words of a run. */
 #define FEGUAVY_LARGEST_LIMIT 1024
 #define FEGUAVY_LONGEST 1024
-#define FEGUAVY_RUN_WORK 4096
+#define FEGUAVY_RUN_WORK 8192
 /* The working words of a check at the limit L. */
-#define FEGUAVY_CHECK_WORK(L) (512 * (size_t)(L))
+#define FEGUAVY_CHECK_WORK(L) (1024 * (size_t)(L))
 /* How many callers the desk has: 0 to 7. */
 #define FEGUAVY_CALLERS 8
 
@@ -84,13 +84,13 @@ typedef struct {
 } feguavy_found;
 
 /* The type of a closed term within a limit. Typed: the first `length` words of output are the type, the rest unchanged. Refused: the
- * output is unchanged. The working slice is unchanged by refusals 1-9; after any other answer its first 512 x limit words are 0 and
+ * output is unchanged. The working slice is unchanged by refusals 1-9; after any other answer its first 1,024 x limit words are 0 and
  * the rest is unchanged. */
 feguavy_checked feguavy_check(const uint16_t *term, size_t term_len, uint32_t limit, uint16_t *work, size_t work_len,
                               uint16_t *output, size_t output_len);
 
 /* Steps a closed term, accepted or not, at most budget times and at most as often as the caller's allowance on the desk says. The
- * state reached stands at the front of the state slice (it is self-delimiting), the rest unchanged; the first 4,096 words of the
+ * state reached stands at the front of the state slice (it is self-delimiting), the rest unchanged; the first 8,192 words of the
  * working slice are then 0, the rest unchanged. A refused run changes nothing; a caller above 7 is refused before all else. */
 feguavy_ran feguavy_run(const uint16_t *term, size_t term_len, uint32_t budget, uint16_t *work, size_t work_len, uint16_t *state,
                         size_t state_len, uint32_t caller, feguavy_desk desk);

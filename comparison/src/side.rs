@@ -11,8 +11,8 @@ use reference::step::PLAIN;
 /// The reference under the options of what has landed of document 02: the ends of 2.2. It takes each step of a run.
 pub const LANDED: Options = Options { new_ends: true, under_up: false, names: false, no_leap: true };
 
-/// The same for a call.
-pub const RULES: Rules = Rules { new_ends: LANDED.new_ends, leap: !LANDED.no_leap, ..FIRST };
+/// The same for a call, with the working slices of 2.12.
+pub const RULES: Rules = Rules { room: feguavy::RUN_WORK, new_ends: LANDED.new_ends, leap: !LANDED.no_leap, ..FIRST };
 
 /// What a call answers, by the numbers of documents 01 and 02; of a refused check there is no `ran`.
 #[derive(Clone, Copy, Debug, PartialEq)]
@@ -106,7 +106,7 @@ pub fn reference(call: Call, term: &[u16], work: &mut [u16], result: &mut [u16])
         Answer::Refused { reason, place, ran: desk.map(Ran::none) }
     };
     match call {
-        Call::Check { limit } => match reference::check::check(term, limit, work, result) {
+        Call::Check { limit } => match reference::check::check_room(term, limit, work, result, PLAIN, Names::Meaningless, feguavy::check_work(1)) {
             Verdict::Typed(length) => Answer::Typed { length },
             Verdict::Refused(r) => refused(r, None),
         },

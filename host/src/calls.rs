@@ -8,15 +8,15 @@ pub const LARGEST_LIMIT: u32 = 1024;
 /// The longest term and state, in words.
 pub const LONGEST: usize = 1024;
 /// The working words of a run.
-pub const RUN_WORK: usize = 4096;
+pub const RUN_WORK: usize = 8192;
 
 /// The working words of a check at a limit.
 ///
 /// ```
-/// assert_eq!(feguavy::check_work(32), 512 * 32);
+/// assert_eq!(feguavy::check_work(32), 1024 * 32);
 /// ```
 pub const fn check_work(limit: u32) -> usize {
-    512 * limit as usize
+    1024 * limit as usize
 }
 
 /// The type of a closed term within a limit: the first words of `output` where it is typed.

@@ -15,7 +15,7 @@ pub(crate) fn message(term: &[u16], refusal: Refusal, limit: u32) -> String {
     match refusal.reason {
         Reason::LimitNotAllowed => format!("The limit is {limit}, and must be from 1 to 1,024."),
         Reason::WorkShort => {
-            "A check needs a working slice of 512 words for each word of the limit, a run one of 4,096 words.".to_string()
+            "A check needs a working slice of 1,024 words for each word of the limit, a run one of 8,192 words.".to_string()
         }
         Reason::OutputShort => {
             "A check needs an output slice of as many words as the limit, a run a state slice of 1,024 words.".to_string()

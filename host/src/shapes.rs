@@ -14,10 +14,11 @@ pub fn shape(node: u16, words: usize, kind: &str, leaf: u16) -> Vec<u16> {
     }
 }
 
-/// `inner` nested so many levels deep in applications, each with `leaf` for the other part.
+/// `inner` nested so many levels deep in applications, each with `leaf` for the other part, or in down casts.
 fn around(kind: &str, levels: usize, inner: &[u16], leaf: u16) -> Vec<u16> {
     let (before, behind) = match kind {
         "left" => (vec![2; levels], vec![leaf; levels]),
+        "casts" => (vec![1; levels], vec![]),
         _ => ([2, leaf].repeat(levels), vec![]),
     };
     [&before, inner, &behind].concat()
@@ -31,7 +32,7 @@ pub fn redex(kind: &str, words: usize) -> (Vec<u16>, u32) {
     }
     // how deep each piece may be nested: the further in it stands, the less
     let room = |further_in: usize| 54 - 2 * further_in;
-    let levels = words / 2;
+    let levels = if kind == "casts" { words } else { words / 2 };
     let count = (1..).find(|&n| (0..n).map(room).sum::<usize>() >= levels).unwrap();
     let mut left = levels;
     let mut piece = |i: usize, inner: u16, leaf: u16| {

@@ -183,7 +183,7 @@ fn lists_that_are_no_term() {
 fn calls() {
     let of = |reason, limit| explain(&[0], Refusal { reason, place: 0 }, limit);
     assert_eq!(of(Reason::LimitNotAllowed, 0).message, "The limit is 0, and must be from 1 to 1,024.");
-    assert!(of(Reason::WorkShort, 1).message.contains("4,096"));
+    assert!(of(Reason::WorkShort, 1).message.contains("8,192"));
     assert!(of(Reason::OutputShort, 1).message.contains("1,024"));
     let caller = of(Reason::CallerNotAllowed, 1);
     assert_eq!(caller.message, "A run names one of the eight callers of the desk, 0 to 7.");

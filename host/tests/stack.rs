@@ -62,7 +62,7 @@ fn run(buffers: &mut Buffers, term: &[u16], budget: u32) -> Ran {
 }
 
 #[test]
-fn under_one_mebibyte() {
+fn under_half_a_mebibyte() {
     let mut most = 0;
     let deep: Vec<Vec<u16>> = (2..=6).flat_map(|kind| [nested(kind, 63, true), nested(kind, 63, false)]).collect();
     for term in deep.iter().chain([&nested(5, 9, true)]) {
@@ -76,11 +76,11 @@ fn under_one_mebibyte() {
         let applied = [&[2, 4, 0][..], &[5, 0, 17], &term[..]].concat();
         most = most.max(stack_of(|b| _ = run(b, &applied, 2000)));
     }
-    // substitution into bodies nested some 475 levels deep
-    for kind in ["left", "right"] {
-        let (term, steps) = redex(kind, 951);
+    // substitution into bodies nested some 475 levels deep, or 750 where a level is one word
+    for (kind, words) in [("left", 951), ("right", 951), ("casts", 750)] {
+        let (term, steps) = redex(kind, words);
         most = most.max(stack_of(|b| assert_eq!(run(b, &term, steps + 1).answer.unwrap().steps, steps + 1)));
     }
     println!("at most {most} bytes of stack");
-    assert!(most < 1 << 20);
+    assert!(most < 1 << 19);
 }

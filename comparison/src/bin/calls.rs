@@ -12,7 +12,7 @@ use std::process::ExitCode;
 /// The most words that lie beside a lent slice.
 const BESIDE: usize = 16;
 /// A little above what a call can ask for.
-const LONGEST_SLICE: usize = 512 * 1024 + 64;
+const LONGEST_SLICE: usize = feguavy::check_work(feguavy::LARGEST_LIMIT) + 64;
 
 /// A slice to lend, with words on both sides of it, so that a write beside it is seen as well.
 #[derive(Clone)]

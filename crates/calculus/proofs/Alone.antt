@@ -6,17 +6,17 @@ use lib.ListN.{set}
 use lib.Seq.{set-getD}
 use Rattle.calculus.specs.Answer.{Answer, ok, refused, _>>=_, _>>_, require}
 use Rattle.calculus.specs.Run.{Ended}
-use Rattle.calculus.specs.Outcomes.{Desk, last-caller, alone, allowance-of, lowered, course, ran, run-by}
+use Rattle.calculus.specs.Outcomes.{run-room, Desk, last-caller, alone, allowance-of, lowered, course, ran, run-by}
 use Rattle.calculus.specs.Changes.{AsAlone}
 use Rattle.calculus.proofs.Comparisons.{le-leb}
 
 -- By what the course of the run is.
 left-alone : (caller : ℕ) (desk : Desk) (W S : List ℕ) (a : Answer Ended)
-    → ran caller desk W S a ≡ record {
-      answer = ran 0 (alone (allowance-of desk caller)) W S a .answer;
-      desk = set desk caller (allowance-of (ran 0 (alone (allowance-of desk caller)) W S a .desk) 0);
-      work = ran 0 (alone (allowance-of desk caller)) W S a .work;
-      state = ran 0 (alone (allowance-of desk caller)) W S a .state;
+    → ran run-room caller desk W S a ≡ record {
+      answer = ran run-room 0 (alone (allowance-of desk caller)) W S a .answer;
+      desk = set desk caller (allowance-of (ran run-room 0 (alone (allowance-of desk caller)) W S a .desk) 0);
+      work = ran run-room 0 (alone (allowance-of desk caller)) W S a .work;
+      state = ran run-room 0 (alone (allowance-of desk caller)) W S a .state;
     }
 unfolding ran lowered
 left-alone caller desk W S (ok e) = refl

@@ -52,7 +52,7 @@ raise-more n t =
     ∙ ap (λ ρ. rename ρ t) (fun-ext (λ i. sym (add-suc i n)))
     ∙ sym (raise-all (suc n) t)
 
-raise-none : (t : Term) → raise 0 0 t ≡ t
+pub raise-none : (t : Term) → raise 0 0 t ≡ t
 raise-none t = raise-all 0 t ∙ ap (λ ρ. rename ρ t) (fun-ext add-zero) ∙ rename-is-sub (λ i. i) t ∙ sub-var t
 
 -- What `substitute k s` puts in for the index `i`.

@@ -17,7 +17,7 @@ use Rattle.calculus.specs.Rules.{env-empty}
 use Rattle.calculus.specs.Limit.{_⊢⟨_⟩_⦂_}
 use Rattle.calculus.specs.Failing.{Fails}
 use Rattle.calculus.specs.Infer.{infer}
-use Rattle.calculus.specs.Outcomes.{largest-limit, check-room, Checked, verdict, checked, check}
+use Rattle.calculus.specs.Outcomes.{largest-limit, check-room, Checked, verdict, checked, check-by, check}
 use Rattle.calculus.specs.Checks.{Allowed, Checks, limit-refused, work-refused, output-refused, unread, untyped, typed, Demand2-check, TypedOrFails, Untypable, CheckRefusals}
 use Rattle.calculus.proofs.Comparisons.{le-leb, gt-leb, out-of-range}
 use Rattle.calculus.proofs.Says.{By, Says, says-ok, says-refused, of-refused}
@@ -29,12 +29,12 @@ use Rattle.calculus.proofs.Inference.{one-of-two}
 
 module _ (ws : List ℕ) (L : ℕ) (W O : List ℕ) where
   -- Past the three tests of the call, the verdict is of the words alone.
-  pub admitted : Allowed L → check-room L ≤ length W → L ≤ length O → verdict ws L W O ≡ (read ws >>= λ t. infer L [] 0 t)
+  pub admitted : Allowed L → check-room L ≤ length W → L ≤ length O → verdict (check-room L) ws L W O ≡ (read ws >>= λ t. infer L [] 0 t)
   unfolding verdict require _>>_ _>>=_
   admitted (h, k) w o = rw (le-leb 1 L h, le-leb L largest-limit k, le-leb (check-room L) (length W) w, le-leb L (length O) o) refl
 
   pub check-answer : {c : Checked} → Checks ws L W O c → check ws L W O ≡ c
-  unfolding check checked verdict require _>>_ _>>=_ number
+  unfolding check-by checked verdict require _>>_ _>>=_ number
   check-answer (limit-refused n) = rw (out-of-range 1 L largest-limit n) refl
   check-answer (work-refused (h, k) w) = rw (le-leb 1 L h, le-leb L largest-limit k, gt-leb (check-room L) (length W) w) refl
   check-answer (output-refused (h, k) w o) =

@@ -37,4 +37,5 @@ pub mod NumberInjective
 pub mod Table
 pub mod LastStep
 pub mod Alone
+pub mod Rooms
 pub mod Shares

@@ -17,7 +17,7 @@ use Rattle.calculus.specs.Limit.{_⊢⟨_⟩_⦂_}
 use Rattle.calculus.specs.Failing.{Fails, star-over, var-over, app-function, app-not-product, app-argument, app-mismatch, app-over, lam-annotation, lam-not-star, lam-body, lam-over, pi-domain, pi-domain-not-star, pi-codomain, pi-codomain-not-star, pi-over, castup-annotation, castup-not-star, castup-body, castup-rests, castup-step-over, castup-mismatch, castup-over, castdown-body, castdown-rests, castdown-over, mu-annotation, mu-not-star, mu-body, mu-mismatch, mu-over}
 use Rattle.calculus.specs.Scan.{read}
 use Rattle.calculus.specs.Infer.{infer}
-use Rattle.calculus.specs.Outcomes.{largest-limit, check-room, checked, check}
+use Rattle.calculus.specs.Outcomes.{largest-limit, check-room, checked, check-by, check}
 use Rattle.calculus.specs.Checks.{Allowed, limit-refused, work-refused, output-refused, SameType}
 use Rattle.calculus.specs.MoreLimit.{Settled, told, Admitted, MoreLimit, Over, SettledOrOver, TellsAll, SameOrOver, LessLimit, MoreLimitByRules, Judged, OverLimitBecomes}
 use Rattle.calculus.proofs.Says.{says-ok, says-refused, ok-not-refused}
@@ -52,22 +52,22 @@ admits ws L W O s = on (admission ws L W O)
 -- What inference answers is settled or 16.
 inferred-settled : {n : ℕ} {x : Answer Term} (L : ℕ) (W O : List ℕ)
     → Numbered n x
-    → Settled (checked L W O x .answer) ⊎ Over (checked L W O x)
+    → Settled (checked (check-room L) W O x .answer) ⊎ Over (checked (check-room L) W O x)
 unfolding checked Settled number
 inferred-settled L W O (says-ok _) = inl tt
 inferred-settled L W O (says-refused {r} {p} (l, u, _)) = on (ℕ-discrete (number r) 16)
   where
-    on : Dec (number r ≡ 16) → Settled (checked L W O (refused r p) .answer) ⊎ Over (checked L W O (refused r p))
+    on : Dec (number r ≡ 16) → Settled (checked (check-room L) W O (refused r p) .answer) ⊎ Over (checked (check-room L) W O (refused r p))
     on (yes e) = inr (p, ap (λ s. refused s p) (number-injective r over-limit e))
     on (no n) = inl (omega arith, λ e. omega (arith, n, u, e))
 
 pub settled-or-over : SettledOrOver
-unfolding check checked Settled _>>=_
+unfolding check-by checked Settled _>>=_
 settled-or-over ws L W O (a, w, o) = rw (admitted ws L W O a w o) (on (read ws) refl)
   where
     on : (x : Answer Term)
         → read ws ≡ x
-        → Settled (checked L W O (x >>= λ t. infer L [] 0 t) .answer) ⊎ Over (checked L W O (x >>= λ t. infer L [] 0 t))
+        → Settled (checked (check-room L) W O (x >>= λ t. infer L [] 0 t) .answer) ⊎ Over (checked (check-room L) W O (x >>= λ t. infer L [] 0 t))
     on (ok t) e = inferred-settled L W O (infer-numbered L [] 0 t)
     on (refused r p) e =
         let (l, u, _) = misread-numbers (refused-misread ws r p e) in
@@ -88,18 +88,18 @@ tells-all c c′ e = on (c .answer) (c′ .answer) e
     on (refused r p) (refused s q) e = (ap₂ refused (cc e) (cc e), λ n f. absurd (ok-not-refused (sym f)))
 
 pub less-limit : LessLimit
-unfolding check checked told _>>=_
+unfolding check-by checked told _>>=_
 less-limit ws L L′ W W′ O O′ more (a, w, o) (a′, w′, o′) = rw (admitted ws L W O a w o, admitted ws L′ W′ O′ a′ w′ o′) (on (read ws))
   where
-    same : (x : Answer Term) → told (checked L W O x) ≡ told (checked L′ W′ O′ x)
+    same : (x : Answer Term) → told (checked (check-room L) W O x) ≡ told (checked (check-room L′) W′ O′ x)
     same (ok τ) = ap (λ ws. ok (size τ, ws)) (front-of-begun τ O ∙ sym (front-of-begun τ O′))
     same (refused r p) = refl
 
-    inferred : {n : ℕ} {x y : Answer Term} → Keeps n x y → SameOrOver (checked L W O x) (checked L′ W′ O′ y)
+    inferred : {n : ℕ} {x y : Answer Term} → Keeps n x y → SameOrOver (checked (check-room L) W O x) (checked (check-room L′) W′ O′ y)
     inferred (kept {x} h) = inl (same x)
     inferred (sixteen {p} h) = inr (p, refl)
 
-    on : (x : Answer Term) → SameOrOver (checked L W O (x >>= λ t. infer L [] 0 t)) (checked L′ W′ O′ (x >>= λ t. infer L′ [] 0 t))
+    on : (x : Answer Term) → SameOrOver (checked (check-room L) W O (x >>= λ t. infer L [] 0 t)) (checked (check-room L′) W′ O′ (x >>= λ t. infer L′ [] 0 t))
     on (ok t) = inferred (infer-keeps more [] 0 t (le-refl _))
     on (refused r p) = inl (same (refused r p))
 
@@ -174,19 +174,19 @@ unfolding number
 not-sixteen {r} e h e′ = let same : r ≡ over-limit = cc (e, e′) in omega (arith, rw same at h)
 
 -- What inference answers to a term, as an answer of the check.
-judged : {n : ℕ} {x : Answer Term} (L : ℕ) (W O : List ℕ) → Numbered n x → Judged (checked L W O x .answer)
+judged : {n : ℕ} {x : Answer Term} (L : ℕ) (W O : List ℕ) → Numbered n x → Judged (checked (check-room L) W O x .answer)
 unfolding checked Judged
 judged L W O (says-ok _) = tt
 judged L W O (says-refused (l, u, _)) = (l, u)
 
 pub over-limit-becomes : OverLimitBecomes
-unfolding check checked number _>>=_
+unfolding check-by checked number _>>=_
 over-limit-becomes ws L L′ W W′ O O′ (p, e) (a′, w′, o′) = by (admission ws L W O)
   where
     at : (x : Answer Term)
         → read ws ≡ x
-        → checked L W O (x >>= λ t. infer L [] 0 t) .answer ≡ refused over-limit p
-        → Judged (checked L′ W′ O′ (x >>= λ t. infer L′ [] 0 t) .answer)
+        → checked (check-room L) W O (x >>= λ t. infer L [] 0 t) .answer ≡ refused over-limit p
+        → Judged (checked (check-room L′) W′ O′ (x >>= λ t. infer L′ [] 0 t) .answer)
     at (ok t) m e = judged L′ W′ O′ (infer-numbered L′ [] 0 t)
     at (refused r q) m e = absurd (not-sixteen refl (misread-numbers (refused-misread ws r q m) .1) e)
 

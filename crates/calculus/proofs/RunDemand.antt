@@ -26,7 +26,7 @@ use Rattle.calculus.proofs.Courses.{Tested, tested, until-course, until
 -- A run by any order of ends.
 module _ {Order : ℕ → ℕ → Term → End → Type 0} {last : Next → End} (T : Tested Order last) (ws : List ℕ) (budget caller : ℕ)
     (desk : Desk) (W S : List ℕ) where
-  run-by-answer : {c : Ran} → Runs Order ws budget caller desk W S c → run-by (run-until last) ws budget caller desk W S ≡ c
+  run-by-answer : {c : Ran} → Runs Order ws budget caller desk W S c → run-by run-room (run-until last) ws budget caller desk W S ≡ c
   unfolding run-by ran course require _>>_ _>>=_
   run-by-answer (caller-refused k) = rw (gt-leb caller last-caller k) refl
   run-by-answer (work-refused k w) = rw (le-leb caller last-caller k, gt-leb run-room (length W) w) refl
@@ -70,10 +70,10 @@ module _ {Order : ℕ → ℕ → Term → End → Type 0} {last : Next → End}
       by-caller (yes k) = by-work k (decLe run-room (length W))
       by-caller (no k) = (_, caller-refused (omega arith))
 
-  run-by-runs : Runs Order ws budget caller desk W S (run-by (run-until last) ws budget caller desk W S)
+  run-by-runs : Runs Order ws budget caller desk W S (run-by run-room (run-until last) ws budget caller desk W S)
   run-by-runs = subst (Runs Order ws budget caller desk W S) (sym (run-by-answer (outcome .1))) (outcome .1)
 
-  pub run-by-demand : (c : Ran) → (run-by (run-until last) ws budget caller desk W S ≡ c) ↔ Runs Order ws budget caller desk W S c
+  pub run-by-demand : (c : Ran) → (run-by run-room (run-until last) ws budget caller desk W S ≡ c) ↔ Runs Order ws budget caller desk W S c
   run-by-demand c = (λ e. subst (Runs Order ws budget caller desk W S) e run-by-runs, run-by-answer)
 
 pub demand2-run : Demand2-run

@@ -31,7 +31,7 @@ lowered-other desk caller c n h = getD-set-other desk caller c _ 0 h
 -- A run of another.
 others : (caller c : ℕ) (desk : Desk) (W S : List ℕ) (a : Answer Ended)
     → c ≢ caller
-    → allowance-of (ran caller desk W S a .desk) c ≡ allowance-of desk c
+    → allowance-of (ran run-room caller desk W S a .desk) c ≡ allowance-of desk c
 unfolding ran
 others caller c desk W S (ok e) h = lowered-other desk caller c (e .steps) h
 others caller c desk W S (refused r p) h = refl
@@ -50,7 +50,7 @@ view : ℕ → List ℕ → List ℕ → Answer Ended → Seen
 view allowance W S (ok e) = ended-view e W S (allowance - e .steps)
 view allowance W S (refused r p) = record { answer = refused r p; allowance = allowance; work = W; state = S }
 
-viewed : (c : ℕ) (desk : Desk) (W S : List ℕ) (a : Answer Ended) → seen-by c (ran c desk W S a) ≡ view (allowance-of desk c) W S a
+viewed : (c : ℕ) (desk : Desk) (W S : List ℕ) (a : Answer Ended) → seen-by c (ran run-room c desk W S a) ≡ view (allowance-of desk c) W S a
 unfolding ran ended-view view
 viewed c desk W S (ok e) = ap (ended-view e W S) (lowered-own desk c (e .steps))
 viewed c desk W S (refused r p) = refl
@@ -58,7 +58,7 @@ viewed c desk W S (refused r p) = refl
 view-of : ℕ → Call → Seen
 view-of allowance k =
     view allowance (k .work) (k .state)
-    (course run-from (k .words) (min (k .budget) allowance) (k .caller) (k .work) (k .state))
+    (course run-room run-from (k .words) (min (k .budget) allowance) (k .caller) (k .work) (k .state))
 
 own-view : (desk : Desk) (k : Call) → seen-by (k .caller) (served desk k) ≡ view-of (allowance-of desk (k .caller)) k
 unfolding run-by view-of

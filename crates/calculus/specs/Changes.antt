@@ -1,16 +1,19 @@
 -- WHAT CHANGED of the answers of earlier versions, and what stayed: of every call, on any words, numbers and slices.
 use Prim.Native.Nat.{ℕ, _≤_, _<_}
+use mathlib.Core.Bool.{cond}
 use mathlib.Core.List.{List}
 use mathlib.Core.Path.{_≡_}
 use mathlib.Core.Logic.{_↔_, _≢_}
-use lib.ListN.{set}
+use lib.Dec.{leb}
+use lib.ListN.{length, set}
 use Rattle.calculus.specs.Term.{Term}
-use Rattle.calculus.specs.Answer.{ok, refused, Reason}
+use Rattle.calculus.specs.Answer.{ok, refused, Reason, number, work-short}
 use Rattle.calculus.specs.Words.{words, Codes}
 use Rattle.calculus.specs.Rules.{CanStep, Value}
 use Rattle.calculus.specs.Kinds.{Counts}
 use Rattle.calculus.specs.Run.{State, End, at-value, spent, at-stuck}
-use Rattle.calculus.specs.Outcomes.{begun, Desk, last-caller, allowance-of, grant, Ran, run}
+use Rattle.calculus.specs.Outcomes.{check-room, run-room, begun, cleared, check, Desk, last-caller, allowance-of, grant, Ran, run}
+use Rattle.calculus.specs.Checks.{Allowed}
 use Rattle.calculus.specs.Earlier as earlier
 
 -- A RESULT ON THE LAST STEP (document 02, 2.2). `Becomes g n x E E′`: after `n` of the `g` steps granted, at the state `x`, what was
@@ -53,3 +56,38 @@ AsAlone = (ws : List ℕ) (budget caller : ℕ) (desk : Desk) (W S : List ℕ) �
       work = alone .work;
       state = alone .state;
     }
+
+-- LENGTHS KEPT BESIDE NODES (document 02, 2.12). "Every answer, place and output equals that of the old layout, given slices long
+-- enough for both": a slice that has the present room has the earlier one. The answers that cleared the working slice clear it still,
+-- over the present room.
+abbrev pub SameCheck : Type 0
+SameCheck = (ws : List ℕ) (L : ℕ) (W O : List ℕ) → check-room L ≤ length W
+    → let before = earlier.check-plain ws L W O in
+    check ws L W O ≡ record {
+      answer = before .answer;
+      work = elim (before .answer) [
+        | ok n ↦ cleared (check-room L) W
+        | refused r p ↦ cond (leb (number r) 9) W (cleared (check-room L) W)
+      ];
+      output = before .output;
+    }
+
+abbrev pub SameRun : Type 0
+SameRun = (ws : List ℕ) (budget caller : ℕ) (desk : Desk) (W S : List ℕ) → run-room ≤ length W
+    → let before = earlier.run-plain ws budget caller desk W S in
+    run ws budget caller desk W S ≡ record {
+      answer = before .answer;
+      desk = before .desk;
+      work = elim (before .answer) [ ok s ↦ cleared run-room W | refused r p ↦ W ];
+      state = before .state;
+    }
+
+abbrev pub SameAsBefore : Type 0
+SameAsBefore = SameCheck × SameRun
+
+-- A working slice that is too short now is refused by 2, also where it was long enough.
+abbrev pub ShorterRefused : Type 0
+ShorterRefused = ((ws : List ℕ) (L : ℕ) (W O : List ℕ) → Allowed L → length W < check-room L
+    → check ws L W O ≡ record { answer = refused work-short 0; work = W; output = O })
+    × ((ws : List ℕ) (budget caller : ℕ) (desk : Desk) (W S : List ℕ) → caller ≤ last-caller → length W < run-room
+    → run ws budget caller desk W S ≡ record { answer = refused work-short 0; desk = desk; work = W; state = S })

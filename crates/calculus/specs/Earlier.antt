@@ -1,5 +1,5 @@
 -- What an earlier version said, as far as the statements of `Changes` need it. Nothing else reads this file.
-use Prim.Native.Nat.{ℕ, _<_}
+use Prim.Native.Nat.{ℕ, _*_, _<_}
 use mathlib.Core.List.{List}
 use mathlib.Core.Path.{_≡_}
 use mathlib.Core.Logic.{_↔_}
@@ -7,8 +7,8 @@ use Rattle.calculus.specs.Term.{Term, size}
 use Rattle.calculus.specs.Words.{longest}
 use Rattle.calculus.specs.Rules.{_⟶_, CanStep, Value}
 use Rattle.calculus.specs.Step.{Next}
-use Rattle.calculus.specs.Run.{End, at-value, spent, at-stuck, too-long, run-until}
-use Rattle.calculus.specs.Outcomes.{Desk, alone, Ran, run-by}
+use Rattle.calculus.specs.Run.{End, at-value, spent, at-stuck, too-long, run-until, run-from}
+use Rattle.calculus.specs.Outcomes.{Checked, check-by, Desk, alone, Ran, run-by}
 use Rattle.calculus.specs.Outcomes as now
 use Rattle.calculus.specs.Runs.{Runs}
 
@@ -25,7 +25,7 @@ unfoldable pub last-end : Next → End
 last-end m = spent
 
 abbrev pub run : List ℕ → ℕ → ℕ → Desk → List ℕ → List ℕ → Ran
-run = run-by (run-until last-end)
+run = run-by now.run-room (run-until last-end)
 
 -- It is the run whose ends are those.
 abbrev pub Demand2-run : Type 0
@@ -36,3 +36,17 @@ Demand2-run = (ws : List ℕ) (budget caller : ℕ) (desk : Desk) (W S : List �
 -- caller 0 alone at the desk.
 abbrev pub run-alone : List ℕ → ℕ → ℕ → List ℕ → List ℕ → Ran
 run-alone ws budget allowance W S = now.run ws budget 0 (alone allowance) W S
+
+-- Until document 02, 2.12. Document 01: "512 × L words (check) or 4,096 words (run)". Terms lay in the working slice as plain words,
+-- without the lengths of their subterms.
+abbrev pub check-room : ℕ → ℕ
+check-room L = 512 * L
+
+abbrev pub run-room : ℕ
+run-room = 4096
+
+abbrev pub check-plain : List ℕ → ℕ → List ℕ → List ℕ → Checked
+check-plain = check-by check-room
+
+abbrev pub run-plain : List ℕ → ℕ → ℕ → Desk → List ℕ → List ℕ → Ran
+run-plain = run-by run-room run-from

@@ -13,15 +13,17 @@ use Rattle.calculus.specs.Kinds.{Counts}
 use Rattle.calculus.specs.Infer.{infer}
 use Rattle.calculus.specs.Run.{End, Ended, run-from}
 
--- The room that each call asks for: "512 × L words (check) or 4,096 words (run)".
+-- A limit is one of 1–1,024.
 abbrev pub largest-limit : ℕ
 largest-limit = 1024
 
+-- The room that each call asks for: "Working slices need 1,024 × L words for a check and 8,192 for a run, in place of 512 × L and 4,096
+-- wherever 01 says these" (document 02, 2.12).
 abbrev pub check-room : ℕ → ℕ
-check-room L = 512 * L
+check-room L = 1024 * L
 
 abbrev pub run-room : ℕ
-run-room = 4096
+run-room = 8192
 
 -- A slice whose first words are `front`, "the rest unchanged".
 unfoldable pub begun : List ℕ → List ℕ → List ℕ
@@ -37,25 +39,27 @@ pub record Checked : Type 0 where
   pub work : List ℕ
   pub output : List ℕ
 
--- The refusals in document 01's order, and otherwise the type.
-unfoldable pub verdict : List ℕ → ℕ → List ℕ → List ℕ → Answer Term
-verdict ws L W O = do
+-- The refusals in document 01's order, where the working slice is to have `room` words, and otherwise the type.
+unfoldable pub verdict : ℕ → List ℕ → ℕ → List ℕ → List ℕ → Answer Term
+verdict room ws L W O = do
   require limit-not-allowed 0 (leb 1 L && leb L largest-limit)
-  require work-short 0 (leb (check-room L) (length W))
+  require work-short 0 (leb room (length W))
   require output-short 0 (leb L (length O))
   t ← read ws
   infer L [] 0 t
 
 -- "Accepted: the first n output words are the type, the rest unchanged." "Refusals 1–9 leave the working slice too. After any other
--- answer its first 512 × L words [...] are 0."
+-- answer its first [room] words [...] are 0, the rest unchanged."
 unfoldable pub checked : ℕ → List ℕ → List ℕ → Answer Term → Checked
-checked L W O (ok τ) = record { answer = ok (size τ); work = cleared (check-room L) W; output = begun (words τ) O }
-checked L W O (refused r p) =
-    record { answer = refused r p; work = cond (leb (number r) 9) W (cleared (check-room L) W); output = O }
+checked room W O (ok τ) = record { answer = ok (size τ); work = cleared room W; output = begun (words τ) O }
+checked room W O (refused r p) = record { answer = refused r p; work = cond (leb (number r) 9) W (cleared room W); output = O }
 
--- A check: its verdict, and what it leaves in the slices.
-unfoldable pub check : List ℕ → ℕ → List ℕ → List ℕ → Checked
-check ws L W O = checked L W O (verdict ws L W O)
+-- A check with the room that a limit asks for: its verdict, and what it leaves in the slices.
+unfoldable pub check-by : (ℕ → ℕ) → List ℕ → ℕ → List ℕ → List ℕ → Checked
+check-by room ws L W O = checked (room L) W O (verdict (room L) ws L W O)
+
+abbrev pub check : List ℕ → ℕ → List ℕ → List ℕ → Checked
+check = check-by check-room
 
 -- "The desk holds eight allowances, and a run names its caller, 0–7" (document 02, 2.9). Here it may hold any number of them.
 abbrev pub Desk : Type 0
@@ -93,33 +97,33 @@ pub record Ran : Type 0 where
   pub work : List ℕ
   pub state : List ℕ
 
--- "21 a caller above 7, place 0, tested before all others", the refusals in document 01's order, and otherwise the run within the
--- grant `g`, which `go` is.
-unfoldable pub course : (ℕ → Term → Ended) → List ℕ → ℕ → ℕ → List ℕ → List ℕ → Answer Ended
-course go ws g caller W S = do
+-- "21 a caller above 7, place 0, tested before all others", the refusals in document 01's order, where the working slice is to have
+-- `room` words, and otherwise the run within the grant `g`, which `go` is.
+unfoldable pub course : ℕ → (ℕ → Term → Ended) → List ℕ → ℕ → ℕ → List ℕ → List ℕ → Answer Ended
+course room go ws g caller W S = do
   require caller-not-allowed 0 (leb caller last-caller)
-  require work-short 0 (leb run-room (length W))
+  require work-short 0 (leb room (length W))
   require output-short 0 (leb longest (length S))
   t ← read ws
   ok (go g t)
 
 -- "The desk with the allowance lowered by exactly those steps. [...] A refused call leaves output, state and desk unchanged."
-unfoldable pub ran : ℕ → Desk → List ℕ → List ℕ → Answer Ended → Ran
-ran caller desk W S (ok e) =
+unfoldable pub ran : ℕ → ℕ → Desk → List ℕ → List ℕ → Answer Ended → Ran
+ran room caller desk W S (ok e) =
     record {
       answer = ok (record { end = e .end; steps = e .steps; counts = e .counts });
       desk = lowered desk caller (e .steps);
-      work = cleared run-room W;
+      work = cleared room W;
       state = begun (words (e .state)) S;
     }
-ran caller desk W S (refused r p) = record { answer = refused r p; desk = desk; work = W; state = S }
+ran room caller desk W S (refused r p) = record { answer = refused r p; desk = desk; work = W; state = S }
 
--- A run: its course, and what it leaves on the desk and in the slices.
-unfoldable pub run-by : (ℕ → Term → Ended) → List ℕ → ℕ → ℕ → Desk → List ℕ → List ℕ → Ran
-run-by go ws budget caller desk W S = ran caller desk W S (course go ws (grant budget caller desk) caller W S)
+-- A run with the room that it asks for: its course, and what it leaves on the desk and in the slices.
+unfoldable pub run-by : ℕ → (ℕ → Term → Ended) → List ℕ → ℕ → ℕ → Desk → List ℕ → List ℕ → Ran
+run-by room go ws budget caller desk W S = ran room caller desk W S (course room go ws (grant budget caller desk) caller W S)
 
 abbrev pub run : List ℕ → ℕ → ℕ → Desk → List ℕ → List ℕ → Ran
-run = run-by run-from
+run = run-by run-room run-from
 
 -- A part lookup as a function: where the part stands in the caller's own words. "For a list that is no closed term, and for a part
 -- that isn't there, it hands back an empty part", here at place 0. Believed only through the theorems of `Parts`. (`length` is the

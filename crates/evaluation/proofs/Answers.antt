@@ -1,7 +1,7 @@
 -- What a run answers, and so that it is safe. A refusal by the caller, by a short slice or by reading is the calculus' own. Otherwise
 -- reading gave a term; its course is the calculus' course, so the end, the steps, the desk and both slices are those of the outcome.
 -- Whatever equals the outcome has demand 3, which the outcome has.
-use Prim.Native.Nat.{ℕ, _≤_}
+use Prim.Native.Nat.{ℕ, _*_, _≤_}
 use mathlib.Core.List.{List}
 use mathlib.Core.Path.{_≡_, refl, sym, _∙_, subst}
 use native.Mathlib.Omega.{arith}
@@ -9,9 +9,9 @@ use lib.Dec.{lit≤}
 use lib.ListN.{length}
 use Rattle.calculus.specs.Term.{Term}
 use Rattle.calculus.specs.Words.{words, Readable, longest}
-use Rattle.calculus.specs.Answer.{ok, refused, Reason}
+use Rattle.calculus.specs.Answer.{refused, Reason}
 use Rattle.calculus.specs.Run.{Ends, run-from}
-use Rattle.calculus.specs.Outcomes.{Ran, begun, Desk, last-caller, grant, run, run-room}
+use Rattle.calculus.specs.Outcomes.{Ran, Desk, last-caller, grant, run, run-room}
 use Rattle.calculus.specs.Runs.{Runs, ended}
 use Rattle.calculus.specs.Safety.{SafeRun}
 use Rattle.calculus.proofs.Courses.{run-course}
@@ -21,12 +21,12 @@ use Rattle.evaluation.specs.declared.Course.{Course}
 use Rattle.evaluation.specs.Courses.{Performs, ended as left}
 use Rattle.evaluation.specs.declared.Outcome.{Outcome}
 use Rattle.evaluation.specs.Outcomes.{answer-of, end-of, ran-of}
-use Rattle.reduction.proofs.Begun.{cleared-same}
+use Rattle.kept.proofs.Begun.{cleared-same}
 
 -- A course takes no more steps than are granted.
-pub steps-within : (g : ℕ) {t : Term} {W : List ℕ} {c : Course} {after : List ℕ}
+pub steps-within : (g : ℕ) {t : Term} {W S : List ℕ} {c : Course} {W′ S′ : List ℕ}
     → Readable t
-    → Performs (run-from g t) W c after
+    → Performs (run-from g t) W S c W′ S′
     → c .steps .total ≤ g
 steps-within g {t} r p = omega (arith, p .steps, run-course g t (r .short) .within)
 
@@ -47,20 +47,20 @@ module _ (ws : List ℕ) (budget caller : ℕ) (desk : Desk) (W S : List ℕ) wh
   meets-refusal o h a d = meets (run-answer ws budget caller desk W S h ∙ rw (a, d) refl)
 
   -- The course of a run, and the outcome that it leaves.
-  module _ {t : Term} (h : ws ≡ words t) (r : Readable t) {c : Course} {after : List ℕ}
-      (p : Performs (run-from (grant budget caller desk) t) W c after) where
-    pub meets-course : {x : Ran}
-        → caller ≤ last-caller
-        → run-room ≤ length W
-        → longest ≤ length S
-        → x ≡ left (end-of (c .end)) (c .steps) caller desk after (begun (words (run-from (grant budget caller desk) t .state)) S)
-        → Meets x
-    meets-course i w s e =
-        let k = run-course (grant budget caller desk) t (r .short) in
-        let q = run-from (grant budget caller desk) t in
-        let state = begun (words (q .state)) S in
-        let same = cleared-same run-room longest after W (lit≤ tt) (p .behind) in
-        meets
-        (run-answer ws budget caller desk W S (ended i w s (h, r) (k .last) (k .counted) (k .adds) (k .bounded) (k .within) (k .ends))
-        ∙ rw (← p .end, ← p .steps, ← p .counts, ← same) refl
-        ∙ sym e)
+  pub meets-course : {t : Term} {c : Course} {W′ S′ : List ℕ} {x : Ran}
+      → ws ≡ words t
+      → Readable t
+      → Performs (run-from (grant budget caller desk) t) W S c W′ S′
+      → caller ≤ last-caller
+      → run-room ≤ length W
+      → longest ≤ length S
+      → x ≡ left (end-of (c .end)) (c .steps) caller desk W′ S′
+      → Meets x
+  meets-course {t} {W′} h r p i w s e =
+      let k = run-course (grant budget caller desk) t (r .short) in
+      let same = cleared-same run-room (2 * longest) W′ W (lit≤ tt) (p .behind) in
+      meets
+      (run-answer ws budget caller desk W S
+      (ended i w s (h, r) (k .last) (k .counted) (k .adds) (k .bounded) (k .within) (k .ends))
+      ∙ rw (← p .end, ← p .steps, ← p .counts, ← same, ← p .handed) refl
+      ∙ sym e)

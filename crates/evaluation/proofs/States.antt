@@ -1,146 +1,146 @@
--- The state at the front of the working slice, through one step. Storing a closed term's words from the start of a slice puts
--- it there. A step writes only into the room for a state, so the slice behind it stays; where the next state does not fit, the
--- room is left broken, and storing the copy again brings the state back.
-use Prim.Native.Nat.{ℕ, _+_, _≤_, _<_}
-use mathlib.Core.Bool.{true, true≢false}
+-- A state at the front of one of two buffers, through one step. Storing a closed term's kept words from the start of a slice puts
+-- it there, and leaves what lies behind the room for a state. A step does so with the next state, in the buffer that the state is
+-- not in.
+use Prim.Native.Nat.{ℕ, _*_, _≤_}
+use mathlib.Core.Bool.{Bool, true, false, not}
 use mathlib.Core.List.{List, _++_}
 use mathlib.Core.Path.{_≡_, refl, sym, _∙_, ap, subst}
 use native.Mathlib.Omega.{arith}
 use lib.Dec.{lit≤}
-use lib.ListN.{length, take, drop, take-append-drop}
-use lib.Seq.{take-append-le, drop-at, length-take-le}
+use lib.ListN.{length, take, drop}
+use lib.Seq.{sets, drop-at, length-take-le, take-append-le}
 use Rattle.calculus.specs.Term.{Term, size}
-use Rattle.calculus.specs.Words.{words, Readable, longest, deepest}
-use Rattle.calculus.specs.Rules.{_⟶_}
+use Rattle.calculus.specs.Words.{words, Readable, Scoped, longest, deepest}
 use Rattle.calculus.specs.Step as calculus
 use Rattle.calculus.specs.Outcomes.{begun}
 use Rattle.calculus.proofs.Coding.{words-length}
 use Rattle.calculus.proofs.Stepping.{next-step}
 use Rattle.calculus.proofs.Scoping.{scoped-more, step-scoped}
-use Rattle.reduction.specs.Writing.{Writes}
-use Rattle.reduction.specs.Stepping.{CodesWithin, Arrives, Steps}
-use Rattle.reduction.specs.declared.copying.Room.{Room}
-use Rattle.reduction.specs.declared.stepping.Kind.{Kind}
+use Rattle.term.specs.Kept.{kept}
+use Rattle.term.proofs.Keeping.{kept-length}
+use Rattle.reduction.specs.Stepping.{HeldWithin, Steps, Tells}
 use Rattle.reduction.specs.declared.stepping.Stepped.{Stepped}
-use Rattle.reduction.specs.declared.stepping.Stepped.the-variants as stepped
-use Rattle.evaluation.specs.Courses.{Spells, Holds, Advances}
-use Rattle.reduction.proofs.Begun.{sets-begun, writes-begun, take-begun, drop-begun}
+use Rattle.kept.proofs.Begun.{sets-begun, take-begun, drop-begun}
+use Rattle.evaluation.specs.Courses.{buffer, Holds, Advances}
 
-pub readable-spells : (e : List ℕ) {t : Term} → e ≡ words t → Readable t → Spells e (length e) t
-readable-spells e {t} h r =
-    record { coded = h; extent = ap length h ∙ words-length t; short = r .short; closed = r .closed }
-
-pub spells-length : {e : List ℕ} {count : ℕ} {x : Term} → Spells e count x → length e ≡ count
-spells-length {x} h = ap length (h .coded) ∙ words-length x ∙ sym (h .extent)
-
--- What a step asks of them.
-pub spells-codes : {e : List ℕ} {count : ℕ} {x : Term} → Spells e count x → CodesWithin e true
-spells-codes {x} h =
+-- What a step asks of the state.
+pub held-within : {slice : List ℕ} {count : ℕ} {x : Term} → Holds slice count x → HeldWithin (take (2 * count) slice) true
+held-within {x} h =
     record {
       term = x;
-      coded = h .coded;
+      coded = h .front;
       short = h .short;
       scoped = scoped-more {m = 0} {n = deepest} x (lit≤ tt) (h .closed);
       shut = λ _. h .closed;
     }
 
--- A copy of them to the start of a slice.
-module _ {e slice : List ℕ} {r : Room} {after : List ℕ} {count : ℕ} {x : Term}
-    (w : Writes e slice 0 r after)
-    (h : Spells e count x)
-    (room : longest ≤ length slice) where
-  pub copied-begun : after ≡ begun (words x) slice
-  copied-begun = writes-begun w (omega (arith, spells-length h)) ∙ ap (λ front. begun front slice) (h .coded)
+pub held-length : {slice : List ℕ} {count : ℕ} {x : Term} → Holds slice count x → 2 * count ≡ length (take (2 * count) slice)
+held-length {x} h = omega (arith, ap length (h .front), kept-length x, h .extent)
 
-  pub copied-held : Holds after count x
-  copied-held =
+-- Either of the two buffers has room for a state.
+pub buffer-room : (lent : Bool) (work other : List ℕ)
+    → 2 * longest ≤ length work
+    → length other ≡ 2 * longest
+    → 2 * longest ≤ length (buffer lent work other)
+unfolding buffer
+buffer-room true work other l e = l
+buffer-room false work other l e = omega arith
+
+-- Which of the buffers it is.
+pub in-lent : {lent : Bool} (work other : List ℕ) {count : ℕ} {x : Term}
+    → lent ≡ true
+    → Holds (buffer lent work other) count x
+    → Holds work count x
+unfolding buffer
+in-lent work other {count} {x} e h = subst (λ b. Holds (buffer b work other) count x) e h
+
+pub in-other : {lent : Bool} (work other : List ℕ) {count : ℕ} {x : Term}
+    → lent ≡ false
+    → Holds (buffer lent work other) count x
+    → Holds other count x
+unfolding buffer
+in-other work other {count} {x} e h = subst (λ b. Holds (buffer b work other) count x) e h
+
+-- A closed term's kept words are stored from the start of a slice.
+module _ (slice : List ℕ) {after : List ℕ} (x : Term) (short : size x ≤ longest) (room : 2 * longest ≤ length slice)
+    (e : after ≡ sets slice 0 (kept x)) where
+  begins : after ≡ begun (kept x) slice
+  begins = e ∙ sets-begun slice (kept x) (omega (arith, kept-length x))
+
+  pub stored-held : Scoped 0 x → Holds after (size x) x
+  stored-held closed =
       record {
-        front =
-            record {
-              coded =
-                  ap (take count) copied-begun
-                  ∙ ap (λ n. take n (begun (words x) slice)) (h .extent ∙ sym (words-length x))
-                  ∙ take-begun slice (words x);
-              extent = h .extent;
-              short = h .short;
-              closed = h .closed;
-            };
+        front = ap (take (2 * size x)) begins ∙ rw (← kept-length x) (take-begun slice (kept x));
+        extent = refl;
+        short = short;
+        closed = closed;
       }
 
-  pub copied-behind : drop longest after ≡ drop longest slice
-  copied-behind = ap (drop longest) copied-begun ∙ drop-begun longest slice (words x) (omega (arith, words-length x))
+  pub stored-behind : drop (2 * longest) after ≡ drop (2 * longest) slice
+  stored-behind = ap (drop (2 * longest)) begins ∙ drop-begun (2 * longest) slice (kept x) (omega (arith, kept-length x))
 
--- A step from the state `x` at the front of `work`, written to the front of the room for a state, which it leaves as `room`.
-module _ {work : List ℕ} {count : ℕ} {x : Term}
-    (all : longest ≤ length work) (h : Holds work count x) (room : List ℕ)
-    (kept : length room ≡ longest) where
-  behind : drop longest (room ++ drop longest work) ≡ drop longest work
-  behind = drop-at room (drop longest work) longest kept
+-- A term that was read is noted.
+pub noted-held : (ws : List ℕ) {t : Term} (slice : List ℕ) {after : List ℕ}
+    → ws ≡ words t
+    → Readable t
+    → 2 * longest ≤ length slice
+    → after ≡ sets slice 0 (kept t)
+    → Holds after (length ws) t
+noted-held ws {t} slice h r l e = rw (h, words-length t) (stored-held slice t (r .short) l e (r .closed))
 
-  same : room ≡ take longest work → Holds (room ++ drop longest work) count x
-  same e = subst (λ w. Holds w count x) (sym (ap (λ l. l ++ drop longest work) e ∙ take-append-drop longest work)) h
+-- A step of the state `x`, written into a slice `out` as long as the room for a state, which it leaves as `after`. The buffer
+-- `next` begins with that.
+advanced : {slice : List ℕ} {count : ℕ} {x : Term} (out after next : List ℕ) (r : Stepped)
+    → length out ≡ 2 * longest
+    → ((n : ℕ) → n ≤ longest → take (2 * n) next ≡ take (2 * n) after)
+    → Holds slice count x
+    → Steps (calculus.step x) out r after
+    → Advances (calculus.step x) r next
+unfolding Steps Advances
+advanced {x} out after next r room begins h = on (calculus.step x) refl
+  where
+    on : (n : calculus.Next) → calculus.step x ≡ n → Steps n out r after → Advances n r next
+    on calculus.value e s = s .0
+    on calculus.stuck e s = s .0
+    on (calculus.next k y) e (K, kind, a) = (
+      K,
+      kind,
+      λ l.
+          let (told, written) = a .fits (omega arith) in
+          let there = stored-held out y l (omega arith) written (step-scoped 0 (next-step e .0) (h .closed)) in
+          (told, record { front = begins (size y) l ∙ there .front; extent = refl; short = l; closed = there .closed }),
+      λ l. a .full (omega arith) .0,
+    )
 
-  arrived : {K : Kind} {r : Stepped} {y : Term}
-      → x ⟶ y
-      → Arrives K (words y) (take longest work) r room
-      → size y ≤ longest
-      → (r ≡ stepped.To K (size y)) × Holds (room ++ drop longest work) (size y) y
-  arrived {K} {y} s a l =
-      let n : length (take longest work) ≡ longest = length-take-le longest work all in
-      let f = a .fits (omega (arith, words-length y)) in (
-        f .0 ∙ ap (stepped.To K) (words-length y),
-        record {
-          front =
-              record {
-                coded =
-                    take-append-le (size y) room (drop longest work) (omega arith)
-                    ∙ ap (take (size y)) (f .1 ∙ sets-begun (take longest work) (words y) (omega (arith, words-length y)))
-                    ∙ ap (λ k. take k (begun (words y) (take longest work))) (sym (words-length y))
-                    ∙ take-begun (take longest work) (words y);
-                extent = refl;
-                short = l;
-                closed = step-scoped 0 s (h .front .closed);
-              };
-        },
-      )
+-- What a step of the state in the one buffer leaves in both.
+abbrev pub Moves : Bool → List ℕ → List ℕ → ℕ → Stepped → List ℕ → List ℕ → Type 0
+Moves lent work other count r work′ other′ =
+    ((x : Term) → Holds (buffer lent work other) count x → Advances (calculus.step x) r (buffer (not lent) work′ other′))
+    × ((buffer lent work′ other′ ≡ buffer lent work other) × (drop (2 * longest) work′ ≡ drop (2 * longest) work))
 
-  overflowed : (y : Term) {K : Kind} {r : Stepped} → Arrives K (words y) (take longest work) r room → longest < size y → r ≡ stepped.Full
-  overflowed y a l = a .full (omega (arith, words-length y, length-take-le longest work all))
+pub from-lent : {lent : Bool} (work other : List ℕ) (count : ℕ) (r : Stepped) (after : List ℕ)
+    → lent ≡ true
+    → length other ≡ 2 * longest
+    → Tells (take (2 * count) work) other r after
+    → Moves lent work other count r work after
+unfolding buffer
+from-lent work other count r after e room s =
+    subst (λ b. Moves b work other count r work after) (sym e)
+    (λ x h. advanced other after after r room (λ n l. refl) h (s x (h .front)), (refl, refl))
 
-  -- The next state fits, or there is none.
-  pub advanced : {r : Stepped}
-      → Steps (calculus.step x) (take longest work) r room
-      → ¬ (r ≡ stepped.Full)
-      → Advances (calculus.step x) work count x r (room ++ drop longest work)
-  unfolding Steps Advances
-  advanced {r} s differs = on (calculus.step x) refl s
-    where
-      on : (n : calculus.Next)
-          → calculus.step x ≡ n
-          → Steps n (take longest work) r room
-          → Advances n work count x r (room ++ drop longest work)
-      on calculus.value e s = (s .0, same (s .1), behind)
-      on calculus.stuck e s = (s .0, same (s .1), behind)
-      on (calculus.next k y) e (K, kind, s) =
-          (K, kind, arrived (next-step e .0) s, λ l. absurd (differs (overflowed y s l)), behind)
-
-  -- It does not fit, and the copy of `x` is stored again.
-  pub restored : {r : Stepped} {again : List ℕ}
-      → Steps (calculus.step x) (take longest work) r room
-      → r ≡ stepped.Full
-      → Holds again count x
-      → drop longest again ≡ drop longest (room ++ drop longest work)
-      → Advances (calculus.step x) work count x r again
-  unfolding Steps Advances
-  restored {r} {again} s full held back = on (calculus.step x) refl s
-    where
-      on : (n : calculus.Next) → calculus.step x ≡ n → Steps n (take longest work) r room → Advances n work count x r again
-      on calculus.value e s = absurd (true≢false (cc (s .0, full)))
-      on calculus.stuck e s = absurd (true≢false (cc (s .0, full)))
-      on (calculus.next k y) e (K, kind, s) = (
-        K,
-        kind,
-        λ l. absurd (true≢false (cc (arrived (next-step e .0) s l .0, full))),
-        λ l. (full, held),
-        back ∙ behind,
-      )
+pub from-other : {lent : Bool} (work other : List ℕ) (count : ℕ) (r : Stepped) (after : List ℕ)
+    → lent ≡ false
+    → 2 * longest ≤ length work
+    → length after ≡ length (take (2 * longest) work)
+    → Tells (take (2 * count) other) (take (2 * longest) work) r after
+    → Moves lent work other count r (after ++ drop (2 * longest) work) other
+unfolding buffer
+from-other work other count r after e room same s =
+    let n : length (take (2 * longest) work) ≡ 2 * longest = length-take-le (2 * longest) work room in
+    let rest = drop (2 * longest) work in
+    subst (λ b. Moves b work other count r (after ++ rest) other) (sym e) (
+      λ x h.
+          advanced (take (2 * longest) work) after (after ++ rest) r n (λ k l. take-append-le (2 * k) after rest (omega arith)) h
+          (s x (h .front)),
+      (refl, drop-at after rest (2 * longest) (same ∙ n)),
+    )

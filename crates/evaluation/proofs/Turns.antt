@@ -2,12 +2,12 @@
 -- grant, with those steps more. This holds at the start, a step keeps it, and where a turn ends the run it gives the whole
 -- run's answer.
 use Prim.Native.Nat.{ℕ, suc, _+_, _-_, _<_, _≤_}
+use mathlib.Core.Bool.{Bool}
 use mathlib.Core.List.{List}
 use mathlib.Core.Path.{_≡_, refl, sym, _∙_, ap, subst}
 use native.Mathlib.Decide.{decLe}
 use native.Mathlib.Nat.{zero-add, add-zero, sub-zero, add-suc, suc-add}
 use native.Mathlib.Omega.{arith}
-use lib.ListN.{drop}
 use Rattle.calculus.specs.Term.{Term, size}
 use Rattle.calculus.specs.Words.{longest}
 use Rattle.calculus.specs.Kinds.{Kind, by-substitution, by-unfolding, by-cancellation, Counts, counts, counting}
@@ -22,7 +22,7 @@ use Rattle.reduction.specs.Stepping.{kind-of}
 use Rattle.evaluation.specs.declared.End.{End}
 use Rattle.evaluation.specs.declared.End.the-variants as end
 use Rattle.evaluation.specs.declared.Steps.{Steps}
-use Rattle.evaluation.specs.Courses.{Holds, Advances, Performs}
+use Rattle.evaluation.specs.Courses.{Holds, Advances, Goes}
 use Rattle.evaluation.specs.Outcomes.{counts-of, end-of}
 
 -- The steps before and those behind, kind by kind.
@@ -44,16 +44,16 @@ both-none c = rw (add-zero (c .substitutions), add-zero (c .unfoldings), add-zer
 abbrev pub later : Steps → Ended → Ended
 later s e = record { end = e .end; steps = s .total + e .steps; counts = both (counts-of s) (e .counts); state = e .state }
 
--- After `taken` of the steps granted to a run of `t`, its state stands at the front of the working slice.
-pub record Reaches (grant : ℕ) (taken : Steps) (t : Term) (work : List ℕ) (count : ℕ) : Type 0 where
+-- After `taken` of the steps granted to a run of `t`, its state is kept at the front of a buffer.
+pub record Reaches (grant : ℕ) (taken : Steps) (t : Term) (slice : List ℕ) (count : ℕ) : Type 0 where
   pub state : Term
-  pub holds : Holds work count state
+  pub holds : Holds slice count state
   pub course : run-from grant t ≡ later taken (run-from (grant - taken .total) state)
 
 abbrev pub none : Steps
 none = record { total = 0; substitutions = 0; unfoldings = 0; cancellations = 0 }
 
-pub reaches-first : {grant : ℕ} {t : Term} {work : List ℕ} {count : ℕ} → Holds work count t → Reaches grant none t work count
+pub reaches-first : {grant : ℕ} {t : Term} {slice : List ℕ} {count : ℕ} → Holds slice count t → Reaches grant none t slice count
 reaches-first {grant} {t} h =
     let r = run-from grant t in
     record {
@@ -65,34 +65,30 @@ reaches-first {grant} {t} h =
           refl;
     }
 
--- What the answer of a step from `x` says of the run from there with one step more than `g` granted, and what then stands at
--- the front.
-Turned : ℕ → Term → ℕ → List ℕ → Stepped → Type 0
-Turned g x count after stepped.Value = (run-from (suc g) x ≡ done at-value x) × Holds after count x
-Turned g x count after stepped.Stuck = (run-from (suc g) x ≡ done at-stuck x) × Holds after count x
-Turned g x count after stepped.Full = (run-from (suc g) x ≡ done too-long x) × Holds after count x
-Turned g x count after (stepped.To K n) =
-    (y : Term) × (run-from (suc g) x ≡ one-more (kind-of K) (run-from g y)) × Holds after n y
+-- What the answer of a step from `x` says of the run from there with one step more than `g` granted, and of the buffer into which
+-- the next state is written.
+Turned : ℕ → Term → List ℕ → Stepped → Type 0
+Turned g x next stepped.Value = run-from (suc g) x ≡ done at-value x
+Turned g x next stepped.Stuck = run-from (suc g) x ≡ done at-stuck x
+Turned g x next stepped.Full = run-from (suc g) x ≡ done too-long x
+Turned g x next (stepped.To K n) = (y : Term) × (run-from (suc g) x ≡ one-more (kind-of K) (run-from g y)) × Holds next n y
 
-turned : (g : ℕ) (x : Term) (work : List ℕ) (count : ℕ) (after : List ℕ) (r : Stepped)
-    → Advances (calculus.step x) work count x r after
-    → Turned g x count after r
+turned : (g : ℕ) (x : Term) (next : List ℕ) (r : Stepped) → Advances (calculus.step x) r next → Turned g x next r
 unfolding Advances Turned run-until run.advance
-turned g x work count after r a = on (calculus.step x) refl a
+turned g x next r a = on (calculus.step x) refl a
   where
-    on : (n : calculus.Next) → calculus.step x ≡ n → Advances n work count x r after → Turned g x count after r
-    on calculus.value e a = subst (Turned g x count after) (sym (a .0)) (ap (run.advance (run-from g) x) e, a .1)
-    on calculus.stuck e a = subst (Turned g x count after) (sym (a .0)) (ap (run.advance (run-from g) x) e, a .1)
-    on (calculus.next k y) e (K, kind, fits, full, rest) = by-size (decLe (size y) longest)
+    on : (n : calculus.Next) → calculus.step x ≡ n → Advances n r next → Turned g x next r
+    on calculus.value e a = subst (Turned g x next) (sym a) (ap (run.advance (run-from g) x) e)
+    on calculus.stuck e a = subst (Turned g x next) (sym a) (ap (run.advance (run-from g) x) e)
+    on (calculus.next k y) e (K, kind, fits, full) = by-size (decLe (size y) longest)
       where
-        by-size : Dec (size y ≤ longest) → Turned g x count after r
+        by-size : Dec (size y ≤ longest) → Turned g x next r
         by-size (yes l) =
             let (p, h) = fits l in
-            subst (Turned g x count after) (sym p) (y, ap (run.advance (run-from g) x) e ∙ rw (le-leb (size y) longest l, kind) refl, h)
+            subst (Turned g x next) (sym p) (y, ap (run.advance (run-from g) x) e ∙ rw (le-leb (size y) longest l, kind) refl, h)
         by-size (no l) =
-            let (p, h) = full (omega arith) in
-            subst (Turned g x count after) (sym p)
-            (ap (run.advance (run-from g) x) e ∙ rw (gt-leb (size y) longest (omega arith)) refl, h)
+            subst (Turned g x next) (sym (full (omega arith)))
+            (ap (run.advance (run-from g) x) e ∙ rw (gt-leb (size y) longest (omega arith)) refl)
 
 -- The answers that end a run, and the ends.
 pub data Stops : Stepped → End → Type 0 where
@@ -100,67 +96,61 @@ pub data Stops : Stepped → End → Type 0 where
   stops-stuck : Stops stepped.Stuck end.Stuck
   stops-long : Stops stepped.Full end.Long
 
-stopped : (g : ℕ) (x : Term) (count : ℕ) (after : List ℕ) {r : Stepped} {E : End}
+stopped : (g : ℕ) (x : Term) (next : List ℕ) {r : Stepped} {E : End}
     → Stops r E
-    → Turned g x count after r
-    → (run-from (suc g) x ≡ done (end-of E) x) × Holds after count x
+    → Turned g x next r
+    → run-from (suc g) x ≡ done (end-of E) x
 unfolding Turned
-stopped g x count after stops-value h = h
-stopped g x count after stops-stuck h = h
-stopped g x count after stops-long h = h
+stopped g x next stops-value h = h
+stopped g x next stops-stuck h = h
+stopped g x next stops-long h = h
 
-module _ {grant : ℕ} {taken : Steps} {t : Term} {work : List ℕ} {count : ℕ} (h : Reaches grant taken t work count) where
+module _ {grant : ℕ} {taken : Steps} {t : Term} {slice : List ℕ} {count : ℕ} (h : Reaches grant taken t slice count) where
   -- A run that ends at the present state.
-  ends : {start after : List ℕ} (E : End) (m : ℕ)
+  ends : {lent : Bool} {last : List ℕ} (E : End) (m : ℕ)
       → grant - taken .total ≡ m
       → run-from m (h .state) ≡ done (end-of E) (h .state)
-      → Holds after count (h .state)
-      → drop longest after ≡ drop longest start
-      → Performs (run-from grant t) start (record { end = E; steps = taken; length = count }) after
+      → last ≡ slice
+      → Goes (run-from grant t) (record { end = E; steps = taken; length = count; lent = lent }) last
   unfolding done
-  ends {start} {after} E m n e k b =
-      subst (λ r. Performs r start (record { end = E; steps = taken; length = count }) after)
+  ends {lent} {last} E m n e same =
+      subst (λ r. Goes r (record { end = E; steps = taken; length = count; lent = lent }) last)
       (sym (h .course ∙ ap (λ g. later taken (run-from g (h .state))) n ∙ ap (later taken) e))
-      (record { end = refl; steps = sym (add-zero (taken .total)); counts = sym (both-none (counts-of taken)); holds = k; behind = b })
+      (record {
+        end = refl;
+        steps = sym (add-zero (taken .total));
+        counts = sym (both-none (counts-of taken));
+        holds = subst (λ s. Holds s count (h .state)) (sym same) (h .holds);
+      })
 
   -- A run whose grant is used.
-  pub performs-last : {start : List ℕ} {E : End}
+  pub goes-last : {lent : Bool} {E : End}
       → taken .total ≡ grant
       → end-of E ≡ last-end (calculus.step (h .state))
-      → drop longest work ≡ drop longest start
-      → Performs (run-from grant t) start (record { end = E; steps = taken; length = count }) work
+      → Goes (run-from grant t) (record { end = E; steps = taken; length = count; lent = lent }) slice
   unfolding run-until
-  performs-last {E} n e b = ends E 0 (omega arith) (ap (λ E. done E (h .state)) (sym e)) (h .holds) b
+  goes-last {E} n e = ends E 0 (omega arith) (ap (λ E. done E (h .state)) (sym e)) refl
 
   -- A turn.
-  module _ (l : taken .total < grant) (r : Stepped) (after : List ℕ) (a : Advances (calculus.step (h .state)) work count (h .state) r after) where
-    turn : {s : Stepped} → r ≡ s → Turned (grant - (taken .total + 1)) (h .state) count after s
+  module _ (l : taken .total < grant) (r : Stepped) (next : List ℕ) (a : Advances (calculus.step (h .state)) r next) where
+    turn : {s : Stepped} → r ≡ s → Turned (grant - (taken .total + 1)) (h .state) next s
     turn e =
-        subst (Turned (grant - (taken .total + 1)) (h .state) count after) e (turned (grant - (taken .total + 1)) (h .state) work count after r a)
+        subst (Turned (grant - (taken .total + 1)) (h .state) next) e (turned (grant - (taken .total + 1)) (h .state) next r a)
 
-    pub turn-behind : drop longest after ≡ drop longest work
-    unfolding Advances
-    turn-behind = on (calculus.step (h .state)) a
-      where
-        on : (n : calculus.Next) → Advances n work count (h .state) r after → drop longest after ≡ drop longest work
-        on calculus.value a = a .2
-        on calculus.stuck a = a .2
-        on (calculus.next k y) a = a .4
-
-    pub performs-stop : {start : List ℕ} {s : Stepped} {E : End}
+    pub goes-stop : {lent : Bool} {last : List ℕ} {s : Stepped} {E : End}
         → Stops s E
         → r ≡ s
-        → drop longest work ≡ drop longest start
-        → Performs (run-from grant t) start (record { end = E; steps = taken; length = count }) after
-    performs-stop {E} o e b =
-        let (p, k) = stopped (grant - (taken .total + 1)) (h .state) count after o (turn e) in
-        ends E (suc (grant - (taken .total + 1))) (omega arith) p k (turn-behind ∙ b)
+        → last ≡ slice
+        → Goes (run-from grant t) (record { end = E; steps = taken; length = count; lent = lent }) last
+    goes-stop {E} o e same =
+        let g = grant - (taken .total + 1) in
+        ends E (suc g) (omega arith) (stopped g (h .state) next o (turn e)) same
 
     pub reaches-next : {K : code.Kind} {n : ℕ} (more : Steps)
         → r ≡ stepped.To K n
         → more .total ≡ taken .total + 1
         → counts-of more ≡ counting (kind-of K) (counts-of taken)
-        → Reaches grant more t after n
+        → Reaches grant more t next n
     unfolding Turned one-more
     reaches-next {K} more e many each =
         let (y, p, k) = turn e in

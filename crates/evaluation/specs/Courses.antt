@@ -1,8 +1,9 @@
 -- What the inner functions of a run answer and leave in the slices.
-use Prim.Native.Nat.{ℕ, _≤_, _<_}
+use Prim.Native.Nat.{ℕ, _*_, _≤_, _<_}
+use mathlib.Core.Bool.{Bool, true, false}
 use mathlib.Core.List.{List}
 use mathlib.Core.Path.{_≡_}
-use lib.ListN.{length, take, drop}
+use lib.ListN.{take, drop}
 use Rattle.calculus.specs.Term.{Term, size}
 use Rattle.calculus.specs.Words.{words, Scoped, longest}
 use Rattle.calculus.specs.Kinds.{total}
@@ -10,6 +11,7 @@ use Rattle.calculus.specs.Step as calculus
 use Rattle.calculus.specs.Answer.{ok}
 use Rattle.calculus.specs.Run.{End, Ended}
 use Rattle.calculus.specs.Outcomes as outcomes
+use Rattle.term.specs.Kept.{kept}
 use Rattle.reduction.specs.declared.stepping.Kind.{Kind}
 use Rattle.reduction.specs.declared.stepping.Stepped.{Stepped}
 use Rattle.reduction.specs.declared.stepping.Stepped.the-variants as stepped
@@ -18,40 +20,46 @@ use Rattle.evaluation.specs.declared.Steps.{Steps}
 use Rattle.evaluation.specs.declared.Course.{Course}
 use Rattle.evaluation.specs.Outcomes.{counts-of, end-of}
 
--- The words are those of the closed term `x`, which are `count` in number and at most 1,024.
-pub record Spells (ws : List ℕ) (count : ℕ) (x : Term) : Type 0 where
-  pub coded : ws ≡ words x
+-- Of the two buffers between which a state moves, the one that is lent and the other.
+unfoldable pub buffer : Bool → List ℕ → List ℕ → List ℕ
+buffer true work other = work
+buffer false work other = other
+
+-- The closed term `x` of `count` nodes, at most 1,024, is kept at the front of a buffer.
+pub record Holds (slice : List ℕ) (count : ℕ) (x : Term) : Type 0 where
+  pub front : take (2 * count) slice ≡ kept x
   pub extent : count ≡ size x
   pub short : size x ≤ longest
   pub closed : Scoped 0 x
 
--- They stand at the front of the working slice.
-pub record Holds (work : List ℕ) (count : ℕ) (x : Term) : Type 0 where
-  pub front : Spells (take count work) count x
-
--- One step from `x`: the next state stands at the front where there is one and it fits, else `x` does; behind the room for a
--- state the slice is as it was.
-unfoldable pub Advances : calculus.Next → List ℕ → ℕ → Term → Stepped → List ℕ → Type 0
-Advances calculus.value work count x r after = (r ≡ stepped.Value) × Holds after count x × (drop longest after ≡ drop longest work)
-Advances calculus.stuck work count x r after = (r ≡ stepped.Stuck) × Holds after count x × (drop longest after ≡ drop longest work)
-Advances (calculus.next k y) work count x r after =
+-- One step of a state: the next state is kept at the front of the buffer `next`, where there is one and it fits.
+unfoldable pub Advances : calculus.Next → Stepped → List ℕ → Type 0
+Advances calculus.value r next = r ≡ stepped.Value
+Advances calculus.stuck r next = r ≡ stepped.Stuck
+Advances (calculus.next k y) r next =
     (K : Kind)
     × (kind-of K ≡ k)
-    × (size y ≤ longest → (r ≡ stepped.To K (size y)) × Holds after (size y) y)
-    × (longest < size y → (r ≡ stepped.Full) × Holds after count x)
-    × (drop longest after ≡ drop longest work)
+    × (size y ≤ longest → (r ≡ stepped.To K (size y)) × Holds next (size y) y)
+    × (longest < size y → r ≡ stepped.Full)
 
 -- The counts by kind are the steps in all.
 abbrev pub AddUp : Steps → Type 0
 AddUp s = total (counts-of s) ≡ s .total
 
--- A course as the calculus has it: the last state stands at the front.
-pub record Performs (e : Ended) (work : List ℕ) (r : Course) (after : List ℕ) : Type 0 where
+-- A course as the calculus has it, with the last state at the front of the buffer `last`.
+pub record Goes (e : Ended) (r : Course) (last : List ℕ) : Type 0 where
   pub end : end-of (r .end) ≡ e .end
   pub steps : r .steps .total ≡ e .steps
   pub counts : counts-of (r .steps) ≡ e .counts
-  pub holds : Holds after (r .length) (e .state)
-  pub behind : drop longest after ≡ drop longest work
+  pub holds : Holds last (r .length) (e .state)
+
+-- A course as the calculus has it: its last state is handed over; behind the room of a buffer the working slice is as it was.
+pub record Performs (e : Ended) (work state : List ℕ) (r : Course) (work′ state′ : List ℕ) : Type 0 where
+  pub end : end-of (r .end) ≡ e .end
+  pub steps : r .steps .total ≡ e .steps
+  pub counts : counts-of (r .steps) ≡ e .counts
+  pub handed : state′ ≡ outcomes.begun (words (e .state)) state
+  pub behind : drop (2 * longest) work′ ≡ drop (2 * longest) work
 
 -- What a run that ended leaves.
 abbrev pub ended : End → Steps → ℕ → outcomes.Desk → List ℕ → List ℕ → outcomes.Ran

@@ -1,6 +1,7 @@
 // Runs (document 01, Calls): a closed term stepped within a grant, and the desk from which the steps are taken (document 02, 2.9).
-use reduction::clearing::clear;
-use reduction::copying::copy;
+use kept::clearing::clear;
+use kept::keeping::note;
+use kept::keeping::spell;
 use reduction::stepping::Kind;
 use reduction::stepping::Redex;
 use reduction::stepping::Stepped;
@@ -11,19 +12,22 @@ use term::reading::read;
 use term::refusal::Reason;
 use term::refusal::Refusal;
 ghost use mathlib.Core.Path.{_≡_};
-ghost use Prim.Native.Nat.{_+_, _≤_, _<_};
-ghost use lib.ListN.{length, take};
+ghost use Prim.Native.Nat.{ℕ, _+_, _*_, _≤_, _<_};
+ghost use mathlib.Core.Bool.{not};
+ghost use mathlib.Core.List.{List};
+ghost use lib.ListN.{length, take, drop};
 ghost use Rattle.calculus.specs.Term.{Term};
 ghost use Rattle.calculus.specs.Words.{Readable, words, longest};
 ghost use Rattle.calculus.specs.Answer.{refused};
 ghost use Rattle.calculus.specs.Kinds.{counting};
 ghost use Rattle.calculus.specs.Step as calculus;
 ghost use Rattle.calculus.specs.Run.{last-end, run-from};
-ghost use Rattle.calculus.specs.Outcomes.{allowance-of, alone, begun, last-caller, lowered, run, run-room};
+ghost use Rattle.calculus.specs.Outcomes.{allowance-of, alone, last-caller, lowered, run, run-room};
 ghost use Rattle.calculus.specs.Safety.{SafeRun};
 ghost use Rattle.term.specs.Reasons.{reason-of};
-ghost use Rattle.reduction.specs.Stepping.{Coded, kind-of};
-ghost use Rattle.evaluation.specs.Courses.{AddUp, Advances, Holds, Performs, ended};
+ghost use Rattle.term.specs.Kept.{kept};
+ghost use Rattle.reduction.specs.Stepping.{Held, kind-of};
+ghost use Rattle.evaluation.specs.Courses.{AddUp, Advances, Goes, Holds, Performs, buffer, ended};
 ghost use Rattle.evaluation.specs.Outcomes.{answer-of, counts-of, end-of, ran-of};
 
 // An allowance of steps for each of the eight callers.
@@ -92,11 +96,12 @@ pub struct Outcome {
     pub desk: Desk,
 }
 
-// How a run went: its end, its steps, and the length of the state that stands at the front of the working slice.
+// How a run went: its end, its steps, the length of the state that it came to, and whether that is kept in the lent buffer.
 pub struct Course {
     pub end: End,
     pub steps: Steps,
     pub length: usize,
+    pub lent: bool,
 }
 
 // One step more, of this kind. No count overflows: the three add up to the total, so that each is at most the total, which is
@@ -120,25 +125,34 @@ fn counted(mut steps: Steps, kind: Kind) -> Steps
     steps
 }
 
-// Takes one step of the state at the front of `work`, which stays where the next one does not fit. `copied` is for the moment of
-// the step: what is read and what is written cannot lie in one slice.
-fn advance(work: &mut [u16], copied: &mut [u16], count: usize) -> Stepped
-    requires { ⌜ (longest ≤ length (now work)) × (length (now copied) ≡ longest) × ((x : Term) × Holds (now work) count x) ⌝ }
-    ensures { λ r. ⌜ ((x : Term) → Holds (now (work .entry)) count x → Advances (calculus.step x) (now (work .entry)) count x r (now (work .exit))) ⌝ }
-    ensures { λ r. ⌜ now (copied .exit) ≡ begun (take count (now (work .entry))) (now (copied .entry)) ⌝ }
+// The state: `count` nodes at the front of the buffer that has it, the lent one or the other.
+fn current<'a>(lent: bool, work: &'a [u16], other: &'a [u16], count: usize) -> &'a [u16]
+    requires { ⌜ 2 * count ≤ length (buffer lent (now work) (now other)) ⌝ }
+    ensures { λ r. ⌜ now r ≡ take (2 * count) (buffer lent (now (work .entry)) (now (other .entry))) ⌝ }
 {
-    copy(&work[..count], copied, 0);
-    let stepped = step(&copied[..count], true, &mut work[..1024]);
-    if let Stepped::Full = stepped {
-        copy(&copied[..count], work, 0);
+    if lent {
+        return &work[..2 * count];
     }
-    stepped
+    &other[..2 * count]
+}
+
+// Takes one step of the state, from the buffer that has it into the front of the other one: what is read and what is written cannot
+// lie in one slice. Where the next state does not fit, the state is where it was.
+fn advance(lent: bool, work: &mut [u16], other: &mut [u16], count: usize) -> Stepped
+    requires { ⌜ (2 * longest ≤ length (now work)) × (length (now other) ≡ 2 * longest) × ((x : Term) × Holds (buffer lent (now work) (now other)) count x) ⌝ }
+    ensures { λ r. ⌜ ((x : Term) → Holds (buffer lent (now (work .entry)) (now (other .entry))) count x → Advances (calculus.step x) r (buffer (not lent) (now (work .exit)) (now (other .exit)))) ⌝ }
+    ensures { λ r. ⌜ (buffer lent (now (work .exit)) (now (other .exit)) ≡ buffer lent (now (work .entry)) (now (other .entry))) × (drop (2 * longest) (now (work .exit)) ≡ drop (2 * longest) (now (work .entry))) ⌝ }
+{
+    if lent {
+        return step(&work[..2 * count], true, other);
+    }
+    step(&other[..2 * count], true, &mut work[..2048])
 }
 
 // The end of a run whose grant is used: its state tells it, and no step is written.
 fn last_end(state: &[u16]) -> End
-    requires { ⌜ Coded (now state) ⌝ }
-    ensures { λ r. ⌜ ((x : Term) → now (state .entry) ≡ words x → end-of r ≡ last-end (calculus.step x)) ⌝ }
+    requires { ⌜ Held (now state) ⌝ }
+    ensures { λ r. ⌜ ((x : Term) → now (state .entry) ≡ kept x → end-of r ≡ last-end (calculus.step x)) ⌝ }
 {
     match find_redex(state) {
         Redex::Value => End::Value,
@@ -147,15 +161,15 @@ fn last_end(state: &[u16]) -> End
     }
 }
 
-// Runs the term. The ends are tested in the order value, stuck, spent, too long: while a step is left, the step itself tells a value
-// or a stuck state before it writes, and only then a state that does not fit.
-fn perform(term: &[u16], grant: u32, work: &mut [u16]) -> Course
-    requires { ⌜ (longest ≤ length (now work)) × ((t : Term) × (now term ≡ words t) × Readable t) ⌝ }
-    ensures { λ r. ⌜ ((t : Term) → now (term .entry) ≡ words t → Readable t → Performs (run-from grant t) (now (work .entry)) r (now (work .exit))) ⌝ }
+// Runs the closed term of `size` nodes that the lent buffer begins with. The ends are tested in the order value, stuck, spent, too
+// long: while a step is left, the step itself tells a value or a stuck state before it writes, and only then a state that does not fit.
+fn go(size: usize, grant: u32, work: &mut [u16], other: &mut [u16]) -> Course
+    requires { ⌜ (2 * longest ≤ length (now work)) × (length (now other) ≡ 2 * longest) × ((t : Term) × Holds (now work) size t) ⌝ }
+    ensures { λ r. ⌜ ((t : Term) → Holds (now (work .entry)) size t → Goes (run-from grant t) r (buffer (r .lent) (now (work .exit)) (now (other .exit)))) ⌝ }
+    ensures { λ r. ⌜ drop (2 * longest) (now (work .exit)) ≡ drop (2 * longest) (now (work .entry)) ⌝ }
 {
-    let mut copied = [0u16; 1024];
-    let mut count = term.len();
-    copy(term, work, 0);
+    let mut count = size;
+    let mut lent = true;
     let mut steps = Steps {
         total: 0,
         substitutions: 0,
@@ -163,12 +177,13 @@ fn perform(term: &[u16], grant: u32, work: &mut [u16]) -> Course
         cancellations: 0,
     };
     while steps.total < grant {
-        match advance(work, &mut copied, count) {
+        match advance(lent, work, other, count) {
             Stepped::Value => {
                 return Course {
                     end: End::Value,
                     steps,
                     length: count,
+                    lent,
                 };
             }
             Stepped::Stuck => {
@@ -176,6 +191,7 @@ fn perform(term: &[u16], grant: u32, work: &mut [u16]) -> Course
                     end: End::Stuck,
                     steps,
                     length: count,
+                    lent,
                 };
             }
             Stepped::Full => {
@@ -183,33 +199,46 @@ fn perform(term: &[u16], grant: u32, work: &mut [u16]) -> Course
                     end: End::Long,
                     steps,
                     length: count,
+                    lent,
                 };
             }
             Stepped::To(kind, next) => {
                 count = next;
+                lent = !lent;
                 steps = counted(steps, kind);
             }
         }
     }
-    let end = last_end(&work[..count]);
+    let end = last_end(current(lent, work, other, count));
     Course {
         end,
         steps,
         length: count,
+        lent,
     }
 }
 
-// Hands over the state that a run reached, clears the working slice and lowers the caller's allowance.
-fn settle(course: Course, work: &mut [u16], state: &mut [u16], caller: u32, desk: Desk) -> Outcome
-    requires { ⌜ (run-room ≤ length (now work)) × (longest ≤ length (now state)) × ((x : Term) × Holds (now work) (course .length) x) ⌝ }
-    requires { ⌜ (caller ≤ last-caller) × (course .steps .total ≤ allowance-of (desk .allowances) caller) ⌝ }
-    ensures { λ r. ⌜ ((x : Term) → Holds (now (work .entry)) (course .length) x → ran-of r (now (work .exit)) (now (state .exit)) ≡ ended (end-of (course .end)) (course .steps) caller (desk .allowances) (now (work .entry)) (begun (words x) (now (state .entry)))) ⌝ }
+// Runs the term, and hands over the state that it came to. One of the two buffers is the front of the lent slice, the other is its own.
+fn perform(term: &[u16], grant: u32, work: &mut [u16], state: &mut [u16]) -> Course
+    requires { ⌜ (2 * longest ≤ length (now work)) × (longest ≤ length (now state)) × ((t : Term) × (now term ≡ words t) × Readable t) ⌝ }
+    ensures { λ r. ⌜ ((t : Term) → now (term .entry) ≡ words t → Readable t → Performs (run-from grant t) (now (work .entry)) (now (state .entry)) r (now (work .exit)) (now (state .exit))) ⌝ }
 {
-    let count = course.length;
+    let mut other = [0u16; 2048];
+    note(term, work, 0);
+    let course = go(term.len(), grant, work, &mut other);
+    spell(current(course.lent, work, &other, course.length), state);
+    course
+}
+
+// Clears the working slice and lowers the caller's allowance.
+fn settle(course: Course, work: &mut [u16], caller: u32, desk: Desk) -> Outcome
+    requires { ⌜ run-room ≤ length (now work) ⌝ }
+    requires { ⌜ (caller ≤ last-caller) × (course .steps .total ≤ allowance-of (desk .allowances) caller) ⌝ }
+    ensures { λ r. ⌜ ((state : List ℕ) → ran-of r (now (work .exit)) state ≡ ended (end-of (course .end)) (course .steps) caller (desk .allowances) (now (work .entry)) state) ⌝ }
+{
     let end = course.end;
     let steps = course.steps;
-    copy(&work[..count], state, 0);
-    clear(work, 8);
+    clear(work, 16);
     Outcome {
         answer: Ran::Ended(end, steps),
         desk: desk.lowered(caller, steps.total),
@@ -241,7 +270,7 @@ pub fn run(
     if 7 < caller {
         return refused(Reason::CallerNotAllowed, 0, desk);
     }
-    if work.len() < 4096 {
+    if work.len() < 8192 {
         return refused(Reason::WorkShort, 0, desk);
     }
     if state.len() < 1024 {
@@ -257,6 +286,6 @@ pub fn run(
     } else {
         allowance
     };
-    let course = perform(term, grant, work);
-    settle(course, work, state, caller, desk)
+    let course = perform(term, grant, work, state);
+    settle(course, work, caller, desk)
 }

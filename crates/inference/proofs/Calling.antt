@@ -1,11 +1,11 @@
--- Function and argument of an application, once both are typed: the function's type, a product, lies at `top`, and the argument's type
--- behind it.
-use Prim.Native.Nat.{ℕ, suc, _+_, _-_, _≤_}
+-- Function and argument of an application, once both are typed: the function's type, a product, is kept at `top`, and the
+-- argument's type behind it.
+use Prim.Native.Nat.{ℕ, suc, _+_, _-_, _*_, _≤_}
 use mathlib.Core.List.{List}
 use mathlib.Core.Logic.{_≢_}
 use mathlib.Core.Path.{_≡_, sym, ap, subst, _∙_}
 use native.Mathlib.Omega.{arith}
-use lib.ListN.{length, take, drop, getD}
+use lib.ListN.{length, take, drop}
 use lib.Seq.{take-take}
 use Rattle.calculus.specs.Term.{Term, app, pi, size}
 use Rattle.calculus.specs.Answer.{ok}
@@ -14,15 +14,16 @@ use Rattle.calculus.specs.Meaning.{meaning, a-pi}
 use Rattle.calculus.specs.Rules.{Context}
 use Rattle.calculus.specs.Infer.{infer}
 use Rattle.calculus.proofs.Scoping.{scoped-more}
+use Rattle.term.specs.Kept.{kept, word-at}
 use Rattle.inference.specs.Inference.{Subject}
 use Rattle.inference.specs.Moving.{Product}
 use Rattle.inference.proofs.Nodes.{of-app}
-use Rattle.inference.proofs.Subjects.{behind, part-words, first, second, kept, place-first, place-second}
+use Rattle.inference.proofs.Subjects.{behind, part-words, first, second, replaced, place-first, place-second}
 use Rattle.inference.proofs.Rooms.{subject-shallow}
 use Rattle.inference.proofs.Types.{type-scoped, type-fits}
 use Rattle.inference.proofs.Passing.{Part}
 use Rattle.inference.proofs.Heads.{Headed, type-headed, type-meaning}
-use Rattle.inference.proofs.Written.{same-part}
+use Rattle.inference.proofs.KeptTypes.{same-part}
 
 -- Function `f` and argument `u` of an application at `p`.
 pub record Called (L : ℕ) (Γ : Context) (p : ℕ) (f u : Term) (places : List ℕ) (depth : ℕ) (work : List ℕ) (top n more m own : ℕ) (after places′ : List ℕ) : Type 0 where
@@ -37,9 +38,9 @@ pub record Called (L : ℕ) (Γ : Context) (p : ℕ) (f u : Term) (places : List
   pub fits : m ≤ L
   pub own-fits : own ≤ L
   pub scoped : Scoped (suc (length Γ)) codomain
-  pub lies : take m (drop top after) ≡ words (pi domain codomain)
-  pub type-lies : take own (drop (top + m) after) ≡ words type
-  pub front : take top after ≡ take top work
+  pub lies : take (2 * m) (drop (2 * top) after) ≡ kept (pi domain codomain)
+  pub type-lies : take (2 * own) (drop (2 * (top + m)) after) ≡ kept type
+  pub front : take (2 * top) after ≡ take (2 * top) work
   pub context : take depth places′ ≡ take depth places
   pub wide : length places′ ≡ length places
 
@@ -47,7 +48,7 @@ module _ {Γ : Context} {f u : Term} {term sub places : List ℕ} {depth : ℕ} 
     {work : List ℕ} {top n m : ℕ} {between places₁ : List ℕ}
     (F : Part (infer L Γ (length term - length (behind 1 sub)) f) f places depth work top n m between places₁) where
   pub argument-subject : Subject Γ u term (behind (1 + n) sub) places₁ depth
-  argument-subject = second (kept S (F .context) (F .wide)) (1 + n) of-app (ap (λ k. 1 + k) (F .read))
+  argument-subject = second (replaced S (F .context) (F .wide)) (1 + n) of-app (ap (λ k. 1 + k) (F .read))
 
   pub argument-words : {more : ℕ} → more ≡ size u → take (1 + n + more - (1 + n)) (drop (1 + n) sub) ≡ words u
   argument-words {more} x = part-words sub (1 + n) (1 + n + more - (1 + n)) argument-subject (omega arith)
@@ -56,25 +57,26 @@ module _ {Γ : Context} {f u : Term} {term sub places : List ℕ} {depth : ℕ} 
   function-found = rw (← place-first S) (F .found)
 
   -- The first word decides whether its type is a product.
-  pub other-type : meaning (getD between top 0) ≢ a-pi → (a b : Term) → F .type ≢ pi a b
-  unfolding words emit meaning
+  pub other-type : meaning (word-at between top) ≢ a-pi → (a b : Term) → F .type ≢ pi a b
+  unfolding emit meaning
   other-type n a b x = n (type-meaning F x)
 
-  pub is-product : a-pi ≡ meaning (getD between top 0) → (a : Term) × (b : Term) × (F .type ≡ pi a b)
+  pub is-product : a-pi ≡ meaning (word-at between top) → (a : Term) × (b : Term) × (F .type ≡ pi a b)
   unfolding Headed
   is-product w = type-headed L _ (first S of-app) F w
 
-  pub function-product : (w : a-pi ≡ meaning (getD between top 0))
+  pub function-product : (w : a-pi ≡ meaning (word-at between top))
       → infer L Γ (suc (length term - length sub)) f ≡ ok (pi (is-product w .0) (is-product w .1))
   function-product w = function-found ∙ ap ok (is-product w .2)
 
   pub called : {more own : ℕ} {after places′ : List ℕ}
-      → a-pi ≡ meaning (getD between top 0)
+      → a-pi ≡ meaning (word-at between top)
       → Part (infer L Γ (length term - length (behind (1 + n) sub)) u) u places₁ depth between (top + m) more own after places′
       → Called L Γ (length term - length sub) f u places depth work top n more m own after places′
   unfolding size Scoped
   called {after} w U =
       let x = is-product w .2 in
+      let nodes : 2 * top + 2 * m ≡ 2 * (top + m) = omega arith in
       record {
         domain = is-product w .0;
         codomain = is-product w .1;
@@ -87,12 +89,16 @@ module _ {Γ : Context} {f u : Term} {term sub places : List ℕ} {depth : ℕ} 
         fits = omega (arith, F .long, type-fits (first S of-app) L _ (F .found));
         own-fits = omega (arith, U .long, type-fits argument-subject L _ (U .found));
         scoped = subst (Scoped (length Γ)) x (type-scoped (first S of-app) L _ (F .found)) .1;
-        lies = same-part between after top m (U .front) ∙ F .lies ∙ ap words x;
+        lies =
+            same-part between after (2 * top) (2 * m)
+            (ap (λ k. take k after) nodes ∙ U .front ∙ ap (λ k. take k between) (sym nodes))
+            ∙ F .lies
+            ∙ ap kept x;
         type-lies = U .lies;
         front =
-            sym (take-take top (top + m) after (omega arith))
-            ∙ ap (take top) (U .front)
-            ∙ take-take top (top + m) between (omega arith)
+            sym (take-take (2 * top) (2 * (top + m)) after (omega arith))
+            ∙ ap (take (2 * top)) (U .front)
+            ∙ take-take (2 * top) (2 * (top + m)) between (omega arith)
             ∙ F .front;
         context = U .context ∙ F .context;
         wide = U .wide ∙ F .wide;
@@ -101,7 +107,10 @@ module _ {Γ : Context} {f u : Term} {term sub places : List ℕ} {depth : ℕ} 
 module _ {L : ℕ} {Γ : Context} {p : ℕ} {f u : Term} {places : List ℕ} {depth : ℕ} {work : List ℕ} {top n more m own : ℕ} {after places′ : List ℕ}
     (C : Called L Γ p f u places depth work top n more m own after places′) where
   -- What is asked of the function's type.
-  pub called-product : {term sub : List ℕ} → Subject Γ (app f u) term sub places depth → L ≤ longest → Product (take m (drop top after))
+  pub called-product : {term sub : List ℕ}
+      → Subject Γ (app f u) term sub places depth
+      → L ≤ longest
+      → Product (take (2 * m) (drop (2 * top) after))
   unfolding size
   called-product S h =
       record {

@@ -1,6 +1,6 @@
--- The first word of a term says which node it is, in the words read and in the words of a type that was found: so the code's one
+-- The first word of a term says which node it is, in the words read and where a type is kept that was found: so the code's one
 -- decision over a word is a decision over terms.
-use Prim.Native.Nat.{ℕ}
+use Prim.Native.Nat.{ℕ, _*_}
 use mathlib.Core.Bool.{not}
 use mathlib.Core.List.{List, [], _∷_}
 use mathlib.Core.Logic.{_≢_}
@@ -14,13 +14,14 @@ use mir.Val.{hasKey}
 use types.Run.{OneOf, miss}
 use Rattle.calculus.specs.Term.{Term, var, star, app, lam, pi, castup, castdown, mu, size}
 use Rattle.calculus.specs.Answer.{Answer}
-use Rattle.calculus.specs.Words.{emit, words, Scoped, deepest}
+use Rattle.calculus.specs.Words.{emit, Scoped, deepest}
 use Rattle.calculus.specs.Meaning as calculus
 use Rattle.calculus.specs.Meaning.{meaning, a-star, a-castdown, an-app, a-castup, a-lam, a-pi, a-mu, a-variable, nothing}
 use Rattle.calculus.specs.Rules.{Context}
 use Rattle.calculus.specs.Infer.{infer}
 use Rattle.calculus.proofs.Coding.{size-positive}
 use Rattle.calculus.proofs.Meanings.{meaning-word, word, Indexed}
+use Rattle.term.specs.Kept.{keep, kept, word-at}
 use Rattle.term.specs.Word.{meaning-of}
 use Rattle.term.specs.declared.word.Meaning.{Meaning}
 use Rattle.term.proofs.Visits.{tag}
@@ -63,24 +64,37 @@ subject-headed {e} S told means =
     subst (λ k. Headed k e) (ap (λ ws. meaning (getD ws 0 0)) (sym (S .begins)) ∙ sym means ∙ ap meaning-of told)
     (headed e (S .rest) (deeper-scoped S e (own-scope S)))
 
--- The first word of what lies in a slice.
+-- A kept term begins with the same word.
+same-head : (e : Term) (k r : List ℕ) → getD (keep e k) 0 0 ≡ getD (emit e r) 0 0
+unfolding keep emit
+same-head (var i) k r = refl
+same-head star k r = refl
+same-head (app f u) k r = refl
+same-head (lam a e) k r = refl
+same-head (pi a b) k r = refl
+same-head (castup a e) k r = refl
+same-head (castdown e) k r = refl
+same-head (mu a e) k r = refl
+
+-- The first word of what is kept in a slice.
 lying-word : (τ : Term) (m top : ℕ) (after : List ℕ)
-    → take m (drop top after) ≡ words τ
+    → take (2 * m) (drop (2 * top) after) ≡ kept τ
     → m ≡ size τ
-    → getD after top 0 ≡ getD (words τ) 0 0
+    → word-at after top ≡ getD (emit τ []) 0 0
+unfolding kept
 lying-word τ m top after x l =
-    ap (λ n. getD after n 0) (sym (add-zero top))
-    ∙ sym (getD-drop top after 0 0)
-    ∙ sym (getD-take m (drop top after) 0 0 (omega (arith, size-positive τ)))
+    ap (λ n. getD after n 0) (sym (add-zero (2 * top)))
+    ∙ sym (getD-drop (2 * top) after 0 0)
+    ∙ sym (getD-take (2 * m) (drop (2 * top) after) 0 0 (omega (arith, size-positive τ)))
     ∙ ap (λ ws. getD ws 0 0) x
+    ∙ same-head τ [] []
 
 -- The type that was found of a subterm: its first word says which node it is.
 pub type-headed : {Γ : Context} {e : Term} {term sub places : List ℕ} {depth : ℕ} (L p : ℕ) {places₀ work : List ℕ} {depth₀ top n m : ℕ} {after places′ : List ℕ} {k : calculus.Meaning}
     → Subject Γ e term sub places depth
     → (part : Part (infer L Γ p e) e places₀ depth₀ work top n m after places′)
-    → k ≡ meaning (getD after top 0)
+    → k ≡ meaning (word-at after top)
     → Headed k (part .type)
-unfolding words
 type-headed L p {top} {m} {after} S part w =
     let τ = part .type in
     subst (λ k. Headed k τ) (ap meaning (sym (lying-word τ m top after (part .lies) (part .long))) ∙ sym w)
@@ -89,8 +103,9 @@ type-headed L p {top} {m} {after} S part w =
 pub type-meaning : {x : Answer Term} {e τ : Term} {places : List ℕ} {depth : ℕ} {work : List ℕ} {top n m : ℕ} {after places′ : List ℕ}
     → (part : Part x e places depth work top n m after places′)
     → part .type ≡ τ
-    → meaning (getD after top 0) ≡ meaning (getD (words τ) 0 0)
-type-meaning {τ} {top} {m} {after} part x = ap meaning (lying-word τ m top after (part .lies ∙ ap words x) (part .long ∙ ap size x))
+    → meaning (word-at after top) ≡ meaning (getD (emit τ []) 0 0)
+type-meaning {τ} {top} {m} {after} part x =
+    ap meaning (lying-word τ m top after (part .lies ∙ ap kept x) (part .long ∙ ap size x))
 
 -- What a decision says that takes another way.
 other : (ks : List ℕ) (m : calculus.Meaning) (r : Meaning) → T (not (hasKey ks (index m))) → OneOf ks (tag r) → meaning-of r ≢ m

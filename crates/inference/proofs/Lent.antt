@@ -1,74 +1,74 @@
--- What a call writes into a part of the working slice, said of the whole slice: the part has room for as many words as the limit
+-- What a call writes into a part of the working slice, said of the whole slice: the part has room for as many nodes as the limit
 -- allows, and a store into the part is a store into the slice.
-use Prim.Native.Nat.{ℕ, _+_, _-_, _≤_}
+use Prim.Native.Nat.{ℕ, _+_, _-_, _*_, _≤_, _<_}
 use mathlib.Core.List.{List, _++_}
-use mathlib.Core.Path.{_≡_, sym, ap, _∙_}
+use mathlib.Core.Path.{_≡_, refl, ap, _∙_}
 use native.Mathlib.Omega.{arith}
-use lib.ListN.{length, take, drop, replicate, length-drop, length-replicate}
+use lib.ListN.{length, take, drop, length-drop}
 use lib.Seq.{length-take-le}
-use Rattle.calculus.specs.Term.{Term}
-use Rattle.calculus.specs.Words.{words, longest}
+use Rattle.calculus.specs.Term.{Term, size, substitute}
 use Rattle.calculus.specs.Step as calculus
-use Rattle.calculus.proofs.Coding.{words-length}
-use Rattle.reduction.specs.declared.copying.Room.{Room}
-use Rattle.reduction.specs.declared.copying.Room.the-variants as room
+use Rattle.term.specs.Kept.{kept}
+use Rattle.term.proofs.Keeping.{kept-length}
 use Rattle.reduction.specs.declared.stepping.Stepped.{Stepped}
-use Rattle.reduction.specs.declared.stepping.Stepped.the-variants as stepped
-use Rattle.reduction.specs.Writing.{Writes}
+use Rattle.kept.specs.Writing as reduction
 use Rattle.reduction.specs.Stepping.{Steps}
+use Rattle.inference.specs.declared.moving.Applied.the-variants as applied
 use Rattle.inference.specs.Moving.{Puts, Moves}
-use Rattle.inference.proofs.Stored.{stored-front, stored-part, stored}
+use Rattle.inference.proofs.Putting.{within-or-over}
+use Rattle.inference.proofs.Stored.{stored-front, stored-part}
 
--- A term written at `top` into the first `top` + `limit` words.
-pub puts : (x : Term) (work : List ℕ) (top limit : ℕ) {r : Room} {part : List ℕ}
-    → top + limit ≤ length work
-    → Writes (words x) (take (top + limit) work) top r part
-    → Puts x work top limit r (part ++ drop (top + limit) work)
-puts x work top limit {r} {part} room-for w =
-    let many = words-length x in
-    let long = length-take-le (top + limit) work room-for in
-    record {
-      fits = λ h.
-          let g = w .fits (omega arith) in
-          let whole = stored-front work (words x) top (top + limit) (omega arith) room-for in
-          (g .0 ∙ ap (λ n. room.To (top + n)) many, ap (λ l. l ++ drop (top + limit) work) (g .1) ∙ whole);
-      full = λ h. w .full (omega arith) .0;
-    }
+-- `u` put in for the outermost variable of `b`, written at `top` into the first `top` + `limit` nodes: it fits if and only if the
+-- node reached is not behind them.
+module _ (b u : Term) (work : List ℕ) (top limit : ℕ) {reached : ℕ} {part : List ℕ} (room-for : 2 * (top + limit) ≤ length work)
+    (w : reduction.Puts (kept (substitute 0 u b)) (take (2 * (top + limit)) work) top reached part) where
+  room : length (take (2 * (top + limit)) work) ≡ 2 * (top + limit)
+  room = length-take-le (2 * (top + limit)) work room-for
 
--- The next state written to the front of the `limit` words from `top` on. (The code counts them as `top` + `limit` - `top`.)
+  pub reached-behind : top ≤ reached
+  reached-behind =
+      let many = kept-length (substitute 0 u b) in
+      within-or-over (substitute 0 u b) limit (λ h. omega (arith, w .fits (omega (arith, room)) .0))
+      (λ h. omega (arith, room, w .full (omega (arith, room)) .0))
+
+  pub puts-over : top + limit < reached → Puts b u work top limit applied.Full (part ++ drop (2 * (top + limit)) work)
+  puts-over far =
+      let many = kept-length (substitute 0 u b) in
+      record { fits = λ h. absurd (omega (arith, w .fits (omega (arith, room)) .0)); full = λ h. refl }
+
+  pub puts-within : reached ≤ top + limit
+      → Puts b u work top limit (applied.To (reached - top)) (part ++ drop (2 * (top + limit)) work)
+  puts-within near =
+      let x = substitute 0 u b in
+      let many = kept-length x in
+      record {
+        fits = λ h.
+            let g = w .fits (omega (arith, room)) in
+            let count : reached - top ≡ size x = omega (arith, g .0) in
+            let whole = stored-front work (kept x) (2 * top) (2 * (top + limit)) (omega arith) room-for in
+            (ap applied.To count, ap (λ l. l ++ drop (2 * (top + limit)) work) (g .1) ∙ whole);
+        full = λ h. absurd (omega (arith, room, w .full (omega (arith, room)) .0));
+      }
+
+-- The next state written to the front of the `limit` nodes from `top` on. (The code counts their words as the difference of two
+-- ends.)
 pub moves : (s : calculus.Next) (work : List ℕ) (top limit n : ℕ) (r : Stepped) (part : List ℕ)
-    → n ≡ limit
-    → top + limit ≤ length work
-    → Steps s (take n (drop top work)) r part
-    → Moves s work top limit r (take top work ++ (part ++ drop n (drop top work)))
+    → n ≡ 2 * limit
+    → 2 * (top + limit) ≤ length work
+    → Steps s (take n (drop (2 * top) work)) r part
+    → Moves s work top limit r (take (2 * top) work ++ (part ++ drop n (drop (2 * top) work)))
 unfolding Steps Moves
 moves calculus.value work top limit n r part same room-for w = w .0
 moves calculus.stuck work top limit n r part same room-for w = w .0
 moves (calculus.next k x) work top limit n r part same room-for (K, kind, w) =
-    let many = words-length x in
-    let rest = length-drop top work in
-    let long = length-take-le n (drop top work) (omega arith) in (
+    let many = kept-length x in
+    let rest = length-drop (2 * top) work in
+    let long = length-take-le n (drop (2 * top) work) (omega arith) in (
       K,
       kind,
       λ h.
           let g = w .fits (omega arith) in
-          let whole = stored-part work (words x) top n (omega arith) (omega arith) in
-          (g .0 ∙ ap (stepped.To K) many, ap (λ l. take top work ++ (l ++ drop n (drop top work))) (g .1) ∙ whole),
-      λ h. w .full (omega arith),
+          let whole = stored-part work (kept x) (2 * top) n (omega arith) (omega arith) in
+          (g .0, ap (λ l. take (2 * top) work ++ (l ++ drop n (drop (2 * top) work))) (g .1) ∙ whole),
+      λ h. w .full (omega arith) .0,
     )
-
--- So many words from `from` on, copied to the front of an array that has room for the longest term.
-pub copied : (work : List ℕ) (from count : ℕ) {r : Room} {after : List ℕ}
-    → from + count ≤ length work
-    → count ≤ longest
-    → Writes (take (from + count - from) (drop from work)) (replicate 1024 0) 0 r after
-    → take count after ≡ take count (drop from work)
-copied work from count {r} {after} inside few w =
-    let n = from + count - from in
-    let same : n ≡ count = omega arith in
-    let e = take n (drop from work) in
-    let rest = length-drop from work in
-    let many : length e ≡ n = length-take-le n (drop from work) (omega arith) in
-    let room-for = length-replicate {A = ℕ} 1024 0 in
-    let all : take (length e) after ≡ e = ap (take (length e)) (w .fits (omega arith) .1) ∙ stored (replicate 1024 0) e 0 (omega arith) in
-    ap (λ k. take k after) (sym same ∙ sym many) ∙ all ∙ ap (λ k. take k (drop from work)) same

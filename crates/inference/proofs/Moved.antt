@@ -1,7 +1,7 @@
 -- What a step within the limit says of the calculus. There is no next state, or one that is within the limit, or one over it, and
 -- each has its own answer: so where the code found no step there is none, where it did not fit the next state is over the limit,
 -- and otherwise the next state lies where it was to be written.
-use Prim.Native.Nat.{ℕ, suc, _≤_, _<_}
+use Prim.Native.Nat.{ℕ, suc, _*_, _≤_, _<_}
 use mathlib.Core.Bool.{true≢false}
 use mathlib.Core.List.{List}
 use mathlib.Core.Logic.{_⊎_, ⊎-elim}
@@ -12,15 +12,15 @@ use lib.ListN.{take}
 use lib.Seq.{sets}
 use Rattle.calculus.specs.Term.{Term, size}
 use Rattle.calculus.specs.Answer.{refused, no-step}
-use Rattle.calculus.specs.Words.{words}
 use Rattle.calculus.specs.Kinds.{Kind}
 use Rattle.calculus.specs.Step.{Next, value, stuck, next}
 use Rattle.calculus.specs.Infer.{stepped}
+use Rattle.term.specs.Kept.{kept}
 use Rattle.reduction.specs.declared.stepping.Kind as code
 use Rattle.reduction.specs.declared.stepping.Stepped.{Stepped}
 use Rattle.reduction.specs.declared.stepping.Stepped.the-variants.{To, Full}
 use Rattle.reduction.proofs.stepping.Stepped.{the-type}
-use Rattle.reduction.proofs.Stores.{take-sets}
+use Rattle.kept.proofs.Stores.{take-sets}
 use Rattle.inference.specs.Moving.{Moves}
 use Rattle.inference.proofs.Putting.{within-or-over}
 
@@ -30,14 +30,15 @@ pub record Moved (n : Next) (work : List ℕ) (top limit k : ℕ) (after : List 
   pub steps : n ≡ next kind state
   pub fits : size state ≤ limit
   pub long : k ≡ size state
-  pub stored : after ≡ sets work top (words state)
+  pub stored : after ≡ sets work (2 * top) (kept state)
 
 -- What lies before the next state is as it was.
 pub moved-front : {n : Next} {work : List ℕ} {at limit k : ℕ} {after : List ℕ} (top : ℕ)
     → Moved n work at limit k after
     → top ≤ at
-    → take top after ≡ take top work
-moved-front {work} {at} top m h = ap (take top) (m .stored) ∙ take-sets top work at (words (m .state)) h
+    → take (2 * top) after ≡ take (2 * top) work
+moved-front {work} {at} top m h =
+    ap (take (2 * top)) (m .stored) ∙ take-sets (2 * top) work (2 * at) (kept (m .state)) (omega arith)
 
 -- No arm but those of `Value` and `Stuck` is for no step.
 no-rest : {t n : ℕ} → t ≡ suc (suc n) → (t ≡ 0) ⊎ (t ≡ 1) → ⊥
@@ -47,7 +48,7 @@ module _ (work : List ℕ) (top limit : ℕ) (r : Stepped) (after : List ℕ) wh
   -- The next state is within the limit or over it, and the answer goes by that.
   by-limit : {A : Type 0} (k : Kind) (x : Term)
       → Moves (next k x) work top limit r after
-      → ((K : code.Kind) → size x ≤ limit → r ≡ To K (size x) → after ≡ sets work top (words x) → A)
+      → ((K : code.Kind) → size x ≤ limit → r ≡ To K (size x) → after ≡ sets work (2 * top) (kept x) → A)
       → (limit < size x → r ≡ Full → A)
       → A
   unfolding Moves

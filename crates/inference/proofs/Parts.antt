@@ -1,6 +1,6 @@
 -- The two parts of a node whose first part has to be of type star: once it is, the second part is a subject of inference, beside it or
 -- under it; and once that is typed too, all that the node's own tests ask for is known.
-use Prim.Native.Nat.{ℕ, suc, _+_, _-_, _≤_, _<_}
+use Prim.Native.Nat.{ℕ, suc, _+_, _-_, _*_, _≤_, _<_}
 use mathlib.Core.List.{List, _∷_}
 use mathlib.Core.Path.{_≡_, sym, ap, _∙_}
 use native.Mathlib.Nat.{le-refl}
@@ -12,10 +12,11 @@ use Rattle.calculus.specs.Answer.{Answer, ok}
 use Rattle.calculus.specs.Words.{words, longest}
 use Rattle.calculus.specs.Rules.{Context}
 use Rattle.calculus.specs.Infer.{infer}
-use Rattle.calculus.proofs.Coding.{size-positive}
+use Rattle.calculus.proofs.Coding.{size-positive, words-length}
+use Rattle.term.specs.Kept.{kept}
 use Rattle.inference.specs.Inference.{Subject, star-typed}
 use Rattle.inference.proofs.Nodes.{Two, two-size}
-use Rattle.inference.proofs.Subjects.{behind, subject-long, subject-parts, first, second, under, kept, still, place-first, place-second, part-words}
+use Rattle.inference.proofs.Subjects.{behind, subject-long, subject-parts, first, second, under, replaced, still, place-first, place-second, part-words}
 use Rattle.inference.proofs.Passing.{Part, starred}
 use Rattle.inference.proofs.Types.{type-typed, type-fits}
 
@@ -28,8 +29,8 @@ pub record Both (L : ℕ) (Γ Δ : Context) (p : ℕ) (a b : Term) (places : Lis
   pub further : more ≡ size b
   pub long : m ≡ size type
   pub fits : size type ≤ L
-  pub lies : take m (drop from after) ≡ words type
-  pub front : take top after ≡ take top work
+  pub lies : take (2 * m) (drop (2 * from) after) ≡ kept type
+  pub front : take (2 * top) after ≡ take (2 * top) work
   pub context : take depth places′ ≡ take depth places
   pub wide : length places′ ≡ length places
 
@@ -51,12 +52,24 @@ module _ {Γ : Context} {e a : Term} {term sub places : List ℕ} {depth : ℕ} 
   pub annotation-words : {k : ℕ} {b : Term} → Two k e a b → take (1 + n - 1) (drop 1 sub) ≡ words a
   annotation-words h = part-words sub 1 (1 + n - 1) (first S h) (omega (arith, A .read))
 
+  -- What noting it asks.
+  pub annotation-asked : {k : ℕ} {b : Term} {out : ℕ} (at : ℕ)
+      → Two k e a b
+      → 2 * (at + n) ≤ out
+      → (2 * (at + length (take (1 + n - 1) (drop 1 sub))) ≤ out)
+      × (length (take (1 + n - 1) (drop 1 sub)) ≤ longest)
+      × ((t : Term) × (take (1 + n - 1) (drop 1 sub) ≡ words t))
+  annotation-asked at h room =
+      let own = annotation-words h in
+      let long = ap length own ∙ words-length a in
+      (omega (arith, A .read), omega (arith, subject-long S, two-size h, S .within, S .short), (a, own))
+
   -- The words reach beyond the first part.
   pub reaches : {k : ℕ} {b : Term} → Two k e a b → (1 + n < length sub) × (length sub ≤ longest)
   reaches {b} h = omega (arith, subject-long S, two-size h, size-positive b, A .read, S .within, S .short)
 
   pub beside : {b : Term} → Two 0 e a b → Subject Γ b term (behind (1 + n) sub) places₁ depth
-  beside h = second (kept S (A .context) (A .wide)) (1 + n) h behind-annotation
+  beside h = second (replaced S (A .context) (A .wide)) (1 + n) h behind-annotation
 
   -- Both parts, once the second is typed too, in its own context and from a place that is not before `top`.
   both : {k : ℕ} {Δ : Context} {b : Term} {places₂ : List ℕ} {depth₂ from more m : ℕ} {after places′ : List ℕ}
@@ -78,9 +91,9 @@ module _ {Γ : Context} {e a : Term} {term sub places : List ℕ} {depth : ℕ} 
         fits = type-fits S₂ L _ (B .found);
         lies = B .lies;
         front =
-            sym (take-take top from after t)
-            ∙ ap (take top) (B .front)
-            ∙ take-take top from mid t
+            sym (take-take (2 * top) (2 * from) after (omega arith))
+            ∙ ap (take (2 * top)) (B .front)
+            ∙ take-take (2 * top) (2 * from) mid (omega arith)
             ∙ A .front;
         context = context;
         wide = wide;
@@ -97,7 +110,7 @@ module _ {Γ : Context} {e a : Term} {term sub places : List ℕ} {depth : ℕ} 
       → place ≡ length term - length sub + 1
       → Subject (a ∷ Γ) b term (behind (1 + n) sub) (set places₁ depth place) (depth + 1)
   below place h x =
-      under (kept S (A .context) (A .wide)) (1 + n) place h behind-annotation x (type-typed (first S h) L _ is-star)
+      under (replaced S (A .context) (A .wide)) (1 + n) place h behind-annotation x (type-typed (first S h) L _ is-star)
 
   -- The places, once the part below is done.
   module _ {x : Answer Term} {b : Term} (place : ℕ) {work₂ : List ℕ} {top₂ k l : ℕ} {after₂ places′ : List ℕ}

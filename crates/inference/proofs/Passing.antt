@@ -1,7 +1,7 @@
 -- What the answer for a part says of the whole. Inference of a node goes on from a part that is typed and ends at one that is
 -- refused: so a part's refusal is the answer of the whole, and a part that is typed has a type, which lies where the part was
 -- asked for. The whole refuses where the code does, by the same reason at the same place.
-use Prim.Native.Nat.{ℕ}
+use Prim.Native.Nat.{ℕ, _*_}
 use mathlib.Core.Bool.{Bool, true, false, true≢false}
 use mathlib.Core.List.{List}
 use mathlib.Core.Path.{_≡_, refl, ap, subst}
@@ -9,10 +9,10 @@ use native.Mathlib.Decide.{ℕ-discrete}
 use lib.ListN.{length, take, drop}
 use Rattle.calculus.specs.Term.{Term, Term-discrete, star, size}
 use Rattle.calculus.specs.Answer.{Answer, ok, refused, _>>=_, _>>_, require, not-star}
-use Rattle.calculus.specs.Words.{words}
 use Rattle.calculus.specs.Rules.{Context}
 use Rattle.calculus.specs.Infer.{infer, same}
 use Rattle.calculus.proofs.Testing.{equal, unequal}
+use Rattle.term.specs.Kept.{kept}
 use Rattle.term.specs.Reasons.{reason-of}
 use Rattle.term.specs.declared.refusal.Reason.{Reason}
 use Rattle.term.specs.declared.refusal.Refusal.{Refusal}
@@ -26,8 +26,8 @@ pub record Part (x : Answer Term) (e : Term) (places : List ℕ) (depth : ℕ) (
   pub found : x ≡ ok type
   pub read : n ≡ size e
   pub long : m ≡ size type
-  pub lies : take m (drop top after) ≡ words type
-  pub front : take top after ≡ take top work
+  pub lies : take (2 * m) (drop (2 * top) after) ≡ kept type
+  pub front : take (2 * top) after ≡ take (2 * top) work
   pub context : take depth places′ ≡ take depth places
   pub wide : length places′ ≡ length places
 
@@ -35,8 +35,8 @@ pub record Part (x : Answer Term) (e : Term) (places : List ℕ) (depth : ℕ) (
 pub lying : {x : Answer Term} {e τ : Term} {places : List ℕ} {depth : ℕ} {work : List ℕ} {top n m : ℕ} {after places′ : List ℕ}
     → (part : Part x e places depth work top n m after places′)
     → part .type ≡ τ
-    → take (size τ) (drop top after) ≡ words τ
-lying {top} {after} part x = subst (λ t. take (size t) (drop top after) ≡ words t) x (rw (← part .long) (part .lies))
+    → take (2 * size τ) (drop (2 * top) after) ≡ kept τ
+lying {top} {after} part x = subst (λ t. take (2 * size t) (drop (2 * top) after) ≡ kept t) x (rw (← part .long) (part .lies))
 
 module _ {e : Term} {places : List ℕ} {depth : ℕ} {work : List ℕ} {top : ℕ} {r : Inferred} {after places′ : List ℕ} where
   pub typed : {x : Answer Term} {n m : ℕ}

@@ -1,19 +1,20 @@
--- The room of a part and the codes of what inference hands on. A part has a level less than its node, so that it needs one type's room
--- less; a term in scope of the context within the limit is what the steps and the rewriting ask for, since no context is deeper than
--- 64 annotations.
-use Prim.Native.Nat.{ℕ, _+_, _≤_, _<_}
+-- The room of a part, and what the steps and the rewriting ask of what inference hands on. A part has a level less than its node, so
+-- that it needs one type's room less; a term in scope of the context within the limit is what the steps and the rewriting ask for,
+-- since no context is deeper than 64 annotations.
+use Prim.Native.Nat.{ℕ, _+_, _*_, _≤_, _<_}
 use mathlib.Core.Bool.{Bool, true}
 use mathlib.Core.List.{List}
 use mathlib.Core.Path.{_≡_, sym, subst, _∙_}
 use native.Mathlib.Nat.{suc-mul, mul-le-mul-right}
 use native.Mathlib.Omega.{arith}
 use lib.ListN.{length}
-use Rattle.calculus.specs.Term.{Term, var, star, app, lam, pi, castup, castdown, mu, size}
-use Rattle.calculus.specs.Words.{words, levels, Scoped, longest, deepest}
+use Rattle.calculus.specs.Term.{Term, var, star, app, lam, pi, castup, castdown, mu}
+use Rattle.calculus.specs.Words.{words, levels, Scoped, deepest}
 use Rattle.calculus.specs.Rules.{Context}
 use Rattle.calculus.proofs.Scoping.{scoped-more}
-use Rattle.reduction.specs.Stepping.{CodesWithin}
+use Rattle.kept.specs.Rewriting.{Fits}
 use Rattle.inference.specs.Inference.{Subject, Roomy}
+use Rattle.inference.specs.Moving.{CodesWithin}
 use Rattle.inference.proofs.Subjects.{subject-long}
 
 levels-positive : (e : Term) → 1 ≤ levels e
@@ -43,29 +44,27 @@ module _ {Γ : Context} {e : Term} {term sub places : List ℕ} {depth : ℕ} (S
   pub deeper-scoped : (τ : Term) → Scoped (length Γ) τ → Scoped deepest τ
   deeper-scoped τ s = scoped-more τ (omega (arith, S .around, subject-shallow)) s
 
-  -- A term in scope of the context.
-  pub scoped-codes : {ws : List ℕ} (τ : Term) (closed : Bool)
-      → Scoped (length Γ) τ
-      → size τ ≤ longest
-      → ws ≡ words τ
-      → (closed ≡ true → depth ≡ 0)
-      → CodesWithin ws closed
-  scoped-codes τ closed s f x h =
-      record {
-        term = τ;
-        coded = x;
-        short = f;
-        scoped = deeper-scoped τ s;
-        shut = λ c. subst (λ n. Scoped n τ) (sym (S .around) ∙ h c) s;
-      }
+  -- In no annotation's scope it is closed.
+  pub closed-scoped : (τ : Term) → Scoped (length Γ) τ → depth ≡ 0 → Scoped 0 τ
+  closed-scoped τ s h = subst (λ n. Scoped n τ) (sym (S .around) ∙ h) s
 
   -- The subterm itself.
+  pub subject-fits : Fits e
+  subject-fits = record { short = omega (arith, subject-long S, S .within, S .short); scoped = deeper-scoped e own-scope }
+
   pub subject-codes : {ws : List ℕ} (closed : Bool) → ws ≡ words e → (closed ≡ true → depth ≡ 0) → CodesWithin ws closed
-  subject-codes closed x h = scoped-codes e closed own-scope (omega (arith, subject-long S, S .within, S .short)) x h
+  subject-codes closed x h =
+      record {
+        term = e;
+        coded = x;
+        short = subject-fits .short;
+        scoped = subject-fits .scoped;
+        shut = λ c. closed-scoped e own-scope (h c);
+      }
 
 module _ {e : Term} {work : List ℕ} {top limit : ℕ} (R : Roomy e work top limit) where
   -- Two types fit.
-  pub room-two : top + (limit + limit) ≤ length work
+  pub room-two : 2 * (top + (limit + limit)) ≤ length work
   room-two = omega (arith, R .room, suc-mul (levels e) limit, mul-le-mul-right limit (levels-positive e))
 
   -- A part's room, at the same top or behind one type.

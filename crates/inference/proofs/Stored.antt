@@ -1,12 +1,13 @@
 -- A run of stores into a part of a list is a run of stores into the list, where the part has room for it, since every store then
--- is one into the part; and what was stored can be read back.
+-- is one into the part; what was stored can be read back, and stored over by a run as long it is gone.
 use Prim.Native.Nat.{ℕ, suc, _+_, _≤_}
 use mathlib.Core.List.{List, [], _∷_, _++_, append-assoc}
-use mathlib.Core.Path.{_≡_, refl, sym, ap, _∙_}
-use native.Mathlib.Nat.{zero-add}
+use mathlib.Core.Path.{_≡_, refl, sym, ap, ap₂, _∙_}
+use native.Mathlib.Nat.{zero-add, le-refl}
 use native.Mathlib.Omega.{arith}
 use lib.ListN.{length, take, drop, set, length-set, take-append-drop, length-drop}
-use lib.Seq.{sets, sets-eq, set-append-left, length-take-le, take-at, drop-at, drop-drop}
+use lib.Seq.{sets, sets-eq, set-append-left, length-take-le, take-at, drop-at, drop-drop, drop-set-lt}
+use Rattle.kept.proofs.Stores.{take-sets}
 
 sets-left : (front rest : List ℕ) (at : ℕ) (e : List ℕ)
     → at + length e ≤ length front
@@ -46,3 +47,19 @@ stored l e at h =
     ap (λ x. take (length e) (drop at x)) (sets-between l e at h)
     ∙ ap (take (length e)) (drop-at (take at l) (e ++ rest) at (length-take-le at l (omega arith)))
     ∙ take-at e rest (length e) refl
+
+drop-sets : (n : ℕ) (l : List ℕ) (at : ℕ) (e : List ℕ) → at + length e ≤ n → drop n (sets l at e) ≡ drop n l
+drop-sets n l at [] h = refl
+drop-sets n l at (w ∷ e) h = drop-sets n (set l at w) (suc at) e (omega arith) ∙ drop-set-lt n l at w (omega arith)
+
+-- `e` was stored, and in its place now stands `f`, which is as long.
+pub stored-over : (l e f : List ℕ) (at n : ℕ)
+    → at + length e ≤ length l
+    → length f ≡ length e
+    → n ≡ length e
+    → take at (sets l at e) ++ (f ++ drop n (drop at (sets l at e))) ≡ sets l at f
+stored-over l e f at n h same many =
+    let sum : at + n ≡ at + length f = omega arith in
+    ap₂ (λ x y. x ++ (f ++ y)) (take-sets at l at e (le-refl at))
+    (drop-drop n at (sets l at e) ∙ drop-sets (at + n) l at e (omega arith) ∙ ap (λ k. drop k l) sum)
+    ∙ sym (sets-between l f at (omega arith))

@@ -102,11 +102,12 @@ module _ {Γ : Context} {e : Term} {term sub places : List ℕ} {depth : ℕ} (S
         deep = l;
       }
 
-  pub kept : {places′ : List ℕ}
+  -- The same, with places that are the same below `depth`.
+  pub replaced : {places′ : List ℕ}
       → take depth places′ ≡ take depth places
       → length places′ ≡ length places
       → Subject Γ e term sub places′ depth
-  kept {places′} x l =
+  replaced {places′} x l =
       record {
         rest = S .rest;
         begins = S .begins;

@@ -1,5 +1,5 @@
--- The type that inference found of a subterm: the rules give it, it is in scope of the context, it fits the limit, and so its words
--- are such as a step and a rewriting ask for.
+-- The type that inference found of a subterm: the rules give it, it is in scope of the context, it fits the limit, and so it
+-- is such as a step asks for where it is kept.
 use Prim.Native.Nat.{ℕ, _≤_}
 use mathlib.Core.Bool.{Bool, true}
 use mathlib.Core.List.{List}
@@ -8,14 +8,15 @@ use native.Mathlib.Omega.{arith}
 use lib.ListN.{length}
 use Rattle.calculus.specs.Term.{Term, size}
 use Rattle.calculus.specs.Answer.{ok}
-use Rattle.calculus.specs.Words.{words, Scoped, longest}
+use Rattle.calculus.specs.Words.{Scoped, longest}
 use Rattle.calculus.specs.Rules.{Context, _⊢_⦂_}
 use Rattle.calculus.specs.Infer.{infer}
 use Rattle.calculus.proofs.Inference.{infer-sound}
-use Rattle.reduction.specs.Stepping.{CodesWithin}
+use Rattle.term.specs.Kept.{kept}
+use Rattle.reduction.specs.Stepping.{HeldWithin}
 use Rattle.inference.specs.Inference.{Subject}
 use Rattle.inference.proofs.Scoping.{inferred-scoped, inferred-fits}
-use Rattle.inference.proofs.Rooms.{own-scope, scoped-codes}
+use Rattle.inference.proofs.Rooms.{own-scope, deeper-scoped, closed-scoped}
 
 module _ {Γ : Context} {e : Term} {term sub places : List ℕ} {depth : ℕ} (S : Subject Γ e term sub places depth) (L p : ℕ) {τ : Term} (x : infer L Γ p e ≡ ok τ) where
   pub type-typed : Γ ⊢ e ⦂ τ
@@ -27,6 +28,12 @@ module _ {Γ : Context} {e : Term} {term sub places : List ℕ} {depth : ℕ} (S
   pub type-fits : size τ ≤ L
   type-fits = inferred-fits L p e (S .well-formed) (own-scope S) x
 
-  pub type-codes : {ws : List ℕ} (closed : Bool) → L ≤ longest → ws ≡ words τ → (closed ≡ true → depth ≡ 0) → CodesWithin ws closed
-  type-codes closed h y shut =
-      scoped-codes S τ closed type-scoped (omega (arith, type-fits)) y shut
+  pub type-held : {ws : List ℕ} (closed : Bool) → L ≤ longest → ws ≡ kept τ → (closed ≡ true → depth ≡ 0) → HeldWithin ws closed
+  type-held closed h y shut =
+      record {
+        term = τ;
+        coded = y;
+        short = omega (arith, type-fits);
+        scoped = deeper-scoped S τ type-scoped;
+        shut = λ c. closed-scoped S τ type-scoped (shut c);
+      }

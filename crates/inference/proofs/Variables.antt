@@ -1,6 +1,6 @@
 -- The type of a variable is its annotation, which stands at the place that the context has for it, raised over the annotations from
 -- there on: as many as its index and one.
-use Prim.Native.Nat.{ℕ, zero, suc, _+_, _-_, _≤_, _<_}
+use Prim.Native.Nat.{ℕ, zero, suc, _+_, _-_, _*_, _≤_, _<_}
 use mathlib.Core.List.{List, [], _∷_}
 use mathlib.Core.Path.{_≡_, refl, sym, ap, _∙_}
 use native.Mathlib.Nat.{le-of-suc-le-suc}
@@ -18,7 +18,7 @@ use Rattle.inference.specs.declared.Inferred.{Inferred}
 use Rattle.inference.specs.Inference.{Subject, Placed, Annotation, Raises, Infers, refuses}
 use Rattle.inference.proofs.Passing.{found}
 use Rattle.inference.proofs.Putting.{within-or-over}
-use Rattle.inference.proofs.Raising.{raise-size}
+use Rattle.kept.proofs.InPlace.{raise-size}
 use Rattle.inference.proofs.Rooms.{subject-shallow}
 use Rattle.inference.proofs.Written.{written-type}
 
@@ -77,7 +77,7 @@ module _ {Γ : Context} {i : ℕ} {term sub places : List ℕ} {depth : ℕ} (S 
 
   -- The raised annotation is the type.
   pub infers-annotation : {L p : ℕ} {work : List ℕ} {top : ℕ} {r : Inferred} {after : List ℕ}
-      → top + L ≤ length work
+      → 2 * (top + L) ≤ length work
       → Raises (standing Γ i) i p L work top r after
       → Infers (infer L Γ p (var i)) (var i) places depth work top r after places
   unfolding infer size

@@ -6,9 +6,10 @@ use lib.ListN.{length, take, drop, getD}
 use lib.Seq.{sets}
 use Rattle.calculus.specs.Term.{Term, star, size, raise}
 use Rattle.calculus.specs.Answer.{Answer, ok, refused, _>>=_, _>>_, require, Reason, not-star, over-limit}
-use Rattle.calculus.specs.Words.{emit, words, levels, Scoped, longest, deepest}
+use Rattle.calculus.specs.Words.{emit, levels, Scoped, longest, deepest}
 use Rattle.calculus.specs.Rules.{Context, WellFormed}
 use Rattle.calculus.specs.Infer.{infer, same}
+use Rattle.term.specs.Kept.{kept}
 use Rattle.term.specs.Reasons.{reason-of}
 use Rattle.inference.specs.declared.Inferred.{Inferred}
 use Rattle.inference.specs.declared.Inferred.the-variants as inferred
@@ -39,17 +40,17 @@ pub record Subject (Γ : Context) (e : Term) (term sub places : List ℕ) (depth
 pub record Roomy (e : Term) (work : List ℕ) (top limit : ℕ) : Type 0 where
   pub some : 1 ≤ limit
   pub allowed : limit ≤ longest
-  pub room : top + suc (levels e) * limit ≤ length work
+  pub room : 2 * (top + suc (levels e) * limit) ≤ length work
 
 abbrev pub inferred-of : Inferred → Answer ℕ
 inferred-of (inferred.Typed n m) = ok m
 inferred-of (inferred.Refused r) = refused (reason-of (r .reason)) (r .place)
 
--- The type τ of a subterm of `n` words lies at `top`; what lies before it, and the places of the context, are as they were.
+-- The type τ of a subterm of `n` words is kept at `top`; what lies before it, and the places of the context, are as they were.
 pub record TypeFound (τ : Term) (n : ℕ) (places : List ℕ) (depth : ℕ) (work : List ℕ) (top : ℕ) (r : Inferred) (after places′ : List ℕ) : Type 0 where
   pub answer : r ≡ inferred.Typed n (size τ)
-  pub lies : take (size τ) (drop top after) ≡ words τ
-  pub front : take top after ≡ take top work
+  pub lies : take (2 * size τ) (drop (2 * top) after) ≡ kept τ
+  pub front : take (2 * top) after ≡ take (2 * top) work
   pub context : take depth places′ ≡ take depth places
   pub wide : length places′ ≡ length places
 
@@ -97,5 +98,5 @@ pub record Annotation (a : Term) (index : ℕ) (term : List ℕ) (from : ℕ) : 
 
 -- The raised annotation is written at `top`, if it fits the limit.
 pub record Raises (a : Term) (index place limit : ℕ) (work : List ℕ) (top : ℕ) (r : Inferred) (after : List ℕ) : Type 0 where
-  pub fits : size a ≤ limit → (r ≡ inferred.Typed 1 (size a)) × (after ≡ sets work top (words (raise (suc index) 0 a)))
+  pub fits : size a ≤ limit → (r ≡ inferred.Typed 1 (size a)) × (after ≡ sets work (2 * top) (kept (raise (suc index) 0 a)))
   pub over : limit < size a → inferred-of r ≡ refused over-limit place

@@ -1,12 +1,14 @@
-// The type of a subterm, in document 01's order ("Typing, in checking order") and under its names. The type found lies in the
-// working slice from `top` on; what lies before stays.
+// The type of a subterm, in document 01's order ("Typing, in checking order") and under its names. The type found is kept in the
+// working slice from the node `top` on; what lies before stays. `held` has room for two kept terms, for the moment in which a type is
+// moved: of what it holds afterwards nothing is said.
 use crate::comparing::same;
 use crate::moving::Applied;
 use crate::moving::apply;
 use crate::moving::step_into;
 use crate::moving::step_type;
-use reduction::copying::copy;
-use reduction::rewriting::raise;
+use kept::keeping::narrow;
+use kept::keeping::note;
+use kept::rewriting::raise;
 use reduction::stepping::Stepped;
 use term::refusal::Reason;
 use term::refusal::Refusal;
@@ -15,11 +17,12 @@ use term::word::Meaning;
 use term::word::classify;
 use term::word::wide;
 ghost use mathlib.Core.Path.{_≡_};
-ghost use Prim.Native.Nat.{_+_, _≤_};
+ghost use Prim.Native.Nat.{_+_, _*_, _≤_};
 ghost use lib.ListN.{length};
 ghost use Rattle.calculus.specs.Term.{Term, app, castdown, castup, lam, mu, pi};
 ghost use Rattle.calculus.specs.Words.{longest};
 ghost use Rattle.calculus.specs.Infer.{infer};
+ghost use Rattle.inference.specs.Moving.{held-room};
 ghost use Rattle.inference.specs.Inference.{Annotation, Asks, Asks₂, Raises, Tells, Tells₂, star-typed};
 
 mod comparing;
@@ -47,7 +50,7 @@ fn variable(
     top: usize,
     limit: usize,
 ) -> Inferred
-    requires { ⌜ ((a : Term) × Annotation a index (now term) from) × (top + limit ≤ length (now work)) × (limit ≤ longest) ⌝ }
+    requires { ⌜ ((a : Term) × Annotation a index (now term) from) × (2 * (top + limit) ≤ length (now work)) × (limit ≤ longest) ⌝ }
     ensures { λ r. ⌜ ((a : Term) → Annotation a index (now (term .entry)) from → Raises a index place limit (now (work .entry)) top r (now (work .exit))) ⌝ }
 {
     let length = span(&term[from..]);
@@ -55,8 +58,9 @@ fn variable(
         return refused(Reason::OverLimit, place);
     }
     let to = from + length;
-    let end = top + limit;
-    raise(&term[from..to], index + 1, &mut work[..end], top);
+    note(&term[from..to], work, top);
+    let end = top + length;
+    raise(&mut work[2 * top..2 * end], index + 1);
     Inferred::Typed(1, length)
 }
 
@@ -70,26 +74,37 @@ fn application(
     work: &mut [u16],
     top: usize,
     limit: usize,
+    held: &mut [u16],
 ) -> Inferred
+    requires { ⌜ length (now held) ≡ held-room ⌝ }
     requires { ⌜ Asks₂ app (now term) (now sub) (now context) depth (now work) top limit ⌝ }
     ensures { λ r. ⌜ Tells₂ app (now (term .entry)) (now (sub .entry)) (now (context .entry)) depth (now (work .entry)) top limit r (now (work .exit)) (now (context .exit)) ⌝ }
 {
     let place = term.len() - sub.len();
-    let function = infer(term, &sub[1..], context, depth, work, top, limit);
+    let function = infer(term, &sub[1..], context, depth, work, top, limit, held);
     let Inferred::Typed(read, length) = function else {
         return function;
     };
-    let Meaning::Product = classify(work[top]) else {
+    let Meaning::Product = classify(work[2 * top]) else {
         return refused(Reason::NotProduct, place);
     };
     let from = 1 + read;
     let next = top + length;
-    let argument = infer(term, &sub[from..], context, depth, work, next, limit);
+    let argument = infer(term, &sub[from..], context, depth, work, next, limit, held);
     let Inferred::Typed(more, own) = argument else {
         return argument;
     };
     let to = from + more;
-    match apply(&sub[from..to], depth == 0, work, top, length, own, limit) {
+    match apply(
+        &sub[from..to],
+        depth == 0,
+        work,
+        top,
+        length,
+        own,
+        limit,
+        held,
+    ) {
         Applied::WrongArgument => refused(Reason::WrongArgument, place),
         Applied::Full => refused(Reason::OverLimit, place),
         Applied::To(count) => Inferred::Typed(to, count),
@@ -105,15 +120,17 @@ fn star_part(
     work: &mut [u16],
     top: usize,
     limit: usize,
+    held: &mut [u16],
 ) -> Inferred
+    requires { ⌜ length (now held) ≡ held-room ⌝ }
     requires { ⌜ Asks (λ e. e) (now term) (now sub) (now context) depth (now work) top limit ⌝ }
     ensures { λ r. ⌜ Tells star-typed (λ e. e) (now (term .entry)) (now (sub .entry)) (now (context .entry)) depth (now (work .entry)) top limit r (now (work .exit)) (now (context .exit)) ⌝ }
 {
-    let part = infer(term, sub, context, depth, work, top, limit);
+    let part = infer(term, sub, context, depth, work, top, limit, held);
     let Inferred::Typed(_, _) = part else {
         return part;
     };
-    let Meaning::Star = classify(work[top]) else {
+    let Meaning::Star = classify(work[2 * top]) else {
         return refused(Reason::NotStar, term.len() - sub.len());
     };
     part
@@ -129,12 +146,14 @@ fn abstraction(
     work: &mut [u16],
     top: usize,
     limit: usize,
+    held: &mut [u16],
 ) -> Inferred
+    requires { ⌜ length (now held) ≡ held-room ⌝ }
     requires { ⌜ Asks₂ lam (now term) (now sub) (now context) depth (now work) top limit ⌝ }
     ensures { λ r. ⌜ Tells₂ lam (now (term .entry)) (now (sub .entry)) (now (context .entry)) depth (now (work .entry)) top limit r (now (work .exit)) (now (context .exit)) ⌝ }
 {
     let place = term.len() - sub.len();
-    let annotation = star_part(term, &sub[1..], context, depth, work, top, limit);
+    let annotation = star_part(term, &sub[1..], context, depth, work, top, limit, held);
     let Inferred::Typed(read, _) = annotation else {
         return annotation;
     };
@@ -149,6 +168,7 @@ fn abstraction(
         work,
         top + skip,
         limit,
+        held,
     );
     let Inferred::Typed(more, length) = body else {
         return body;
@@ -156,8 +176,9 @@ fn abstraction(
     if limit < front + length {
         return refused(Reason::OverLimit, place);
     }
-    work[top] = 5;
-    copy(&sub[1..front], work, top + 1);
+    work[2 * top] = 5;
+    work[2 * top + 1] = narrow(front + length);
+    note(&sub[1..front], work, top + 1);
     Inferred::Typed(front + more, front + length)
 }
 
@@ -170,18 +191,29 @@ fn product(
     work: &mut [u16],
     top: usize,
     limit: usize,
+    held: &mut [u16],
 ) -> Inferred
+    requires { ⌜ length (now held) ≡ held-room ⌝ }
     requires { ⌜ Asks₂ pi (now term) (now sub) (now context) depth (now work) top limit ⌝ }
     ensures { λ r. ⌜ Tells₂ pi (now (term .entry)) (now (sub .entry)) (now (context .entry)) depth (now (work .entry)) top limit r (now (work .exit)) (now (context .exit)) ⌝ }
 {
     let place = term.len() - sub.len();
-    let domain = star_part(term, &sub[1..], context, depth, work, top, limit);
+    let domain = star_part(term, &sub[1..], context, depth, work, top, limit, held);
     let Inferred::Typed(read, _) = domain else {
         return domain;
     };
     context[depth] = narrow(place + 1);
     let front = 1 + read;
-    let codomain = star_part(term, &sub[front..], context, depth + 1, work, top, limit);
+    let codomain = star_part(
+        term,
+        &sub[front..],
+        context,
+        depth + 1,
+        work,
+        top,
+        limit,
+        held,
+    );
     let Inferred::Typed(more, _) = codomain else {
         return codomain;
     };
@@ -198,22 +230,24 @@ fn cast_up(
     work: &mut [u16],
     top: usize,
     limit: usize,
+    held: &mut [u16],
 ) -> Inferred
+    requires { ⌜ length (now held) ≡ held-room ⌝ }
     requires { ⌜ Asks₂ castup (now term) (now sub) (now context) depth (now work) top limit ⌝ }
     ensures { λ r. ⌜ Tells₂ castup (now (term .entry)) (now (sub .entry)) (now (context .entry)) depth (now (work .entry)) top limit r (now (work .exit)) (now (context .exit)) ⌝ }
 {
     let place = term.len() - sub.len();
-    let annotation = star_part(term, &sub[1..], context, depth, work, top, limit);
+    let annotation = star_part(term, &sub[1..], context, depth, work, top, limit, held);
     let Inferred::Typed(read, _) = annotation else {
         return annotation;
     };
     let front = 1 + read;
-    let body = infer(term, &sub[front..], context, depth, work, top, limit);
+    let body = infer(term, &sub[front..], context, depth, work, top, limit, held);
     let Inferred::Typed(more, length) = body else {
         return body;
     };
     let next = top + length;
-    let count = match step_into(&sub[1..front], depth == 0, work, next, limit) {
+    let count = match step_into(&sub[1..front], depth == 0, work, next, limit, held) {
         Stepped::Value | Stepped::Stuck => {
             return refused(Reason::NoStep, place);
         }
@@ -223,13 +257,13 @@ fn cast_up(
         Stepped::To(_, count) => count,
     };
     let end = next + count;
-    if !same(&work[top..next], &work[next..end]) {
+    if !same(&work[2 * top..2 * next], &work[2 * next..2 * end]) {
         return refused(Reason::WrongCast, place);
     }
     if limit < read {
         return refused(Reason::OverLimit, place);
     }
-    copy(&sub[1..front], work, top);
+    note(&sub[1..front], work, top);
     Inferred::Typed(front + more, read)
 }
 
@@ -242,16 +276,18 @@ fn cast_down(
     work: &mut [u16],
     top: usize,
     limit: usize,
+    held: &mut [u16],
 ) -> Inferred
+    requires { ⌜ length (now held) ≡ held-room ⌝ }
     requires { ⌜ Asks castdown (now term) (now sub) (now context) depth (now work) top limit ⌝ }
     ensures { λ r. ⌜ Tells infer castdown (now (term .entry)) (now (sub .entry)) (now (context .entry)) depth (now (work .entry)) top limit r (now (work .exit)) (now (context .exit)) ⌝ }
 {
     let place = term.len() - sub.len();
-    let body = infer(term, &sub[1..], context, depth, work, top, limit);
+    let body = infer(term, &sub[1..], context, depth, work, top, limit, held);
     let Inferred::Typed(read, length) = body else {
         return body;
     };
-    match step_type(depth == 0, work, top, length, limit) {
+    match step_type(depth == 0, work, top, length, limit, held) {
         Stepped::Value | Stepped::Stuck => refused(Reason::NoStep, place),
         Stepped::Full => refused(Reason::OverLimit, place),
         Stepped::To(_, count) => Inferred::Typed(1 + read, count),
@@ -267,18 +303,29 @@ fn recursion(
     work: &mut [u16],
     top: usize,
     limit: usize,
+    held: &mut [u16],
 ) -> Inferred
+    requires { ⌜ length (now held) ≡ held-room ⌝ }
     requires { ⌜ Asks₂ mu (now term) (now sub) (now context) depth (now work) top limit ⌝ }
     ensures { λ r. ⌜ Tells₂ mu (now (term .entry)) (now (sub .entry)) (now (context .entry)) depth (now (work .entry)) top limit r (now (work .exit)) (now (context .exit)) ⌝ }
 {
     let place = term.len() - sub.len();
-    let annotation = star_part(term, &sub[1..], context, depth, work, top, limit);
+    let annotation = star_part(term, &sub[1..], context, depth, work, top, limit, held);
     let Inferred::Typed(read, _) = annotation else {
         return annotation;
     };
     context[depth] = narrow(place + 1);
     let front = 1 + read;
-    let body = infer(term, &sub[front..], context, depth + 1, work, top, limit);
+    let body = infer(
+        term,
+        &sub[front..],
+        context,
+        depth + 1,
+        work,
+        top,
+        limit,
+        held,
+    );
     let Inferred::Typed(more, length) = body else {
         return body;
     };
@@ -286,20 +333,14 @@ fn recursion(
         return refused(Reason::WrongRecursion, place);
     }
     let next = top + length;
-    raise(&sub[1..front], 1, work, next);
+    note(&sub[1..front], work, next);
     let end = next + length;
-    if !same(&work[top..next], &work[next..end]) {
+    raise(&mut work[2 * next..2 * end], 1);
+    if !same(&work[2 * top..2 * next], &work[2 * next..2 * end]) {
         return refused(Reason::WrongRecursion, place);
     }
-    copy(&sub[1..front], work, top);
+    note(&sub[1..front], work, top);
     Inferred::Typed(front + more, read)
-}
-
-fn narrow(place: usize) -> u16
-    requires { ⌜ place ≤ longest ⌝ }
-    ensures { λ r. ⌜ r ≡ place ⌝ }
-{
-    place as u16
 }
 
 // The type of the subterm that `sub`, the end of `term`, begins with. `context` has the places of the annotations around it,
@@ -312,14 +353,17 @@ pub fn infer(
     work: &mut [u16],
     top: usize,
     limit: usize,
+    held: &mut [u16],
 ) -> Inferred
+    requires { ⌜ length (now held) ≡ held-room ⌝ }
     requires { ⌜ Asks (λ e. e) (now term) (now sub) (now context) depth (now work) top limit ⌝ }
     ensures { λ r. ⌜ Tells infer (λ e. e) (now (term .entry)) (now (sub .entry)) (now (context .entry)) depth (now (work .entry)) top limit r (now (work .exit)) (now (context .exit)) ⌝ }
 {
     let place = term.len() - sub.len();
     match classify(sub[0]) {
         Meaning::Star => {
-            work[top] = 0;
+            work[2 * top] = 0;
+            work[2 * top + 1] = 1;
             Inferred::Typed(1, 1)
         }
         Meaning::Variable(index) => {
@@ -327,12 +371,12 @@ pub fn infer(
             let from = wide(context[binder]);
             variable(term, place, from, index, work, top, limit)
         }
-        Meaning::Application => application(term, sub, context, depth, work, top, limit),
-        Meaning::Abstraction => abstraction(term, sub, context, depth, work, top, limit),
-        Meaning::Product => product(term, sub, context, depth, work, top, limit),
-        Meaning::CastUp => cast_up(term, sub, context, depth, work, top, limit),
-        Meaning::CastDown => cast_down(term, sub, context, depth, work, top, limit),
-        Meaning::Recursion => recursion(term, sub, context, depth, work, top, limit),
+        Meaning::Application => application(term, sub, context, depth, work, top, limit, held),
+        Meaning::Abstraction => abstraction(term, sub, context, depth, work, top, limit, held),
+        Meaning::Product => product(term, sub, context, depth, work, top, limit, held),
+        Meaning::CastUp => cast_up(term, sub, context, depth, work, top, limit, held),
+        Meaning::CastDown => cast_down(term, sub, context, depth, work, top, limit, held),
+        Meaning::Recursion => recursion(term, sub, context, depth, work, top, limit, held),
         Meaning::Nothing => refused(Reason::NoMeaning, place),
     }
 }

@@ -1,19 +1,21 @@
-// Types moved within the working slice: what is read and what is written cannot lie in one slice, so that a type is copied first.
+// Types moved within the working slice: what is read and what is written cannot lie in one slice, so that a type is copied into `held`
+// first; and a part of the caller's own words is noted there, so that all that is moved is kept.
 use crate::comparing::same;
-use reduction::copying::Room;
-use reduction::copying::copy;
-use reduction::rewriting::substitute;
+use kept::copying::copy;
+use kept::keeping::length_at;
+use kept::keeping::note;
+use kept::rewriting::substitute;
 use reduction::stepping::Stepped;
 use reduction::stepping::step;
-use term::walk::span;
 ghost use mathlib.Core.Bool.{false};
 ghost use mathlib.Core.Path.{_≡_};
-ghost use Prim.Native.Nat.{_+_, _≤_};
+ghost use Prim.Native.Nat.{_+_, _*_, _≤_};
 ghost use lib.ListN.{drop, length, take};
-ghost use Rattle.calculus.specs.Term.{Term, pi, substitute};
-ghost use Rattle.calculus.specs.Words.{words};
-ghost use Rattle.reduction.specs.Stepping.{CodesWithin};
-ghost use Rattle.inference.specs.Moving.{Applies, Product, Puts, StepsInto, StepsType};
+ghost use Rattle.calculus.specs.Term.{Term, pi, size};
+ghost use Rattle.calculus.specs.Words.{longest, words};
+ghost use Rattle.term.specs.Kept.{Lies, kept};
+ghost use Rattle.reduction.specs.Stepping.{HeldWithin};
+ghost use Rattle.inference.specs.Moving.{Applies, CodesWithin, Codomain, HeldPair, Product, Puts, StepsInto, StepsType, held-room};
 
 // What an application of a product answers.
 pub(crate) enum Applied {
@@ -22,24 +24,57 @@ pub(crate) enum Applied {
     To(usize),
 }
 
-// The codomain with the argument put in, written at `top` within the limit.
-fn put_in(
-    codomain: &[u16],
-    argument: &[u16],
+// The codomain that `held` begins with, with the argument put in that is kept there from node 1,024 on and has `count` nodes, written
+// at `top` within the limit.
+fn put_held(
+    held: &[u16],
+    count: usize,
     closed: bool,
     work: &mut [u16],
     top: usize,
     limit: usize,
-) -> Room
-    requires { ⌜ (top + limit ≤ length (now work)) × CodesWithin (now codomain) false × CodesWithin (now argument) closed ⌝ }
-    ensures { λ r. ⌜ ((b u : Term) → now (codomain .entry) ≡ words b → now (argument .entry) ≡ words u → Puts (substitute 0 u b) (now (work .entry)) top limit r (now (work .exit))) ⌝ }
+) -> Applied
+    requires { ⌜ (2 * (top + limit) ≤ length (now work)) × (limit ≤ longest) × HeldPair (now held) count closed ⌝ }
+    ensures { λ r. ⌜ ((b u : Term) → Lies b (now (held .entry)) 0 → Lies u (now (held .entry)) longest → Puts b u (now (work .entry)) top limit r (now (work .exit))) ⌝ }
 {
+    let to = 1024 + count;
     let end = top + limit;
-    substitute(codomain, argument, closed, &mut work[..end], top)
+    let reached = substitute(
+        held,
+        0,
+        &held[2048..2 * to],
+        closed,
+        &mut work[..2 * end],
+        top,
+    );
+    if end < reached {
+        return Applied::Full;
+    }
+    Applied::To(reached - top)
 }
 
-// The product at `top`, `count` words long, applied to the argument, whose type lies behind it and is `own` words long: the
-// codomain with the argument put in, written at `top` within the limit.
+// The codomain, kept from the node `codomain` up to `next`, with the argument put in, written at `top` within the limit.
+fn put_in(
+    argument: &[u16],
+    closed: bool,
+    work: &mut [u16],
+    top: usize,
+    codomain: usize,
+    next: usize,
+    limit: usize,
+    held: &mut [u16],
+) -> Applied
+    requires { ⌜ length (now held) ≡ held-room ⌝ }
+    requires { ⌜ (2 * (top + limit) ≤ length (now work)) × (limit ≤ longest) × Codomain (now work) codomain next × CodesWithin (now argument) closed ⌝ }
+    ensures { λ r. ⌜ ((b u : Term) → take (2 * size b) (drop (2 * codomain) (now (work .entry))) ≡ kept b → next ≡ codomain + size b → now (argument .entry) ≡ words u → Puts b u (now (work .entry)) top limit r (now (work .exit))) ⌝ }
+{
+    copy(&work[2 * codomain..2 * next], held, 0);
+    note(argument, held, 1024);
+    put_held(held, argument.len(), closed, work, top, limit)
+}
+
+// The product at `top`, `count` nodes long, applied to the argument, whose type lies behind it and is `own` nodes long: the codomain
+// with the argument put in, written at `top` within the limit.
 pub(crate) fn apply(
     argument: &[u16],
     closed: bool,
@@ -48,52 +83,63 @@ pub(crate) fn apply(
     count: usize,
     own: usize,
     limit: usize,
+    held: &mut [u16],
 ) -> Applied
-    requires { ⌜ (top + limit ≤ length (now work)) × (top + count + own ≤ length (now work)) × Product (take count (drop top (now work))) × CodesWithin (now argument) closed ⌝ }
-    ensures { λ r. ⌜ ((a b u σ : Term) → take count (drop top (now (work .entry))) ≡ words (pi a b) → now (argument .entry) ≡ words u → take own (drop (top + count) (now (work .entry))) ≡ words σ → Applies a b u σ (now (work .entry)) top limit r (now (work .exit))) ⌝ }
+    requires { ⌜ length (now held) ≡ held-room ⌝ }
+    requires { ⌜ (2 * (top + limit) ≤ length (now work)) × (limit ≤ longest) × (2 * (top + count + own) ≤ length (now work)) × Product (take (2 * count) (drop (2 * top) (now work))) × CodesWithin (now argument) closed ⌝ }
+    ensures { λ r. ⌜ ((a b u σ : Term) → take (2 * count) (drop (2 * top) (now (work .entry))) ≡ kept (pi a b) → now (argument .entry) ≡ words u → take (2 * own) (drop (2 * (top + count)) (now (work .entry))) ≡ kept σ → Applies a b u σ (now (work .entry)) top limit r (now (work .exit))) ⌝ }
 {
-    let mut product = [0u16; 1024];
+    let domain = top + 1;
+    let codomain = domain + length_at(work, domain);
     let next = top + count;
-    copy(&work[top..next], &mut product, 0);
-    let behind = 1 + span(&product[1..count]);
     let end = next + own;
-    if !same(&product[1..behind], &work[next..end]) {
+    if !same(&work[2 * domain..2 * codomain], &work[2 * next..2 * end]) {
         return Applied::WrongArgument;
     }
-    match put_in(&product[behind..count], argument, closed, work, top, limit) {
-        Room::Full => Applied::Full,
-        Room::To(end) => Applied::To(end - top),
-    }
+    put_in(argument, closed, work, top, codomain, next, limit, held)
 }
 
-// The next state of `state`, written at `top` within the limit.
+// The next state of a kept one, written at `top` within the limit.
+fn step_held(state: &[u16], closed: bool, work: &mut [u16], top: usize, limit: usize) -> Stepped
+    requires { ⌜ (2 * (top + limit) ≤ length (now work)) × (limit ≤ longest) × HeldWithin (now state) closed ⌝ }
+    ensures { λ r. ⌜ ((b : Term) → now (state .entry) ≡ kept b → StepsType b (now (work .entry)) top limit r (now (work .exit))) ⌝ }
+{
+    let end = top + limit;
+    step(state, closed, &mut work[2 * top..2 * end])
+}
+
+// The next state of a part of the caller's own words, written at `top` within the limit.
 pub(crate) fn step_into(
     state: &[u16],
     closed: bool,
     work: &mut [u16],
     top: usize,
     limit: usize,
+    held: &mut [u16],
 ) -> Stepped
-    requires { ⌜ (top + limit ≤ length (now work)) × CodesWithin (now state) closed ⌝ }
+    requires { ⌜ length (now held) ≡ held-room ⌝ }
+    requires { ⌜ (2 * (top + limit) ≤ length (now work)) × (limit ≤ longest) × CodesWithin (now state) closed ⌝ }
     ensures { λ r. ⌜ ((b : Term) → now (state .entry) ≡ words b → StepsInto b (now (work .entry)) top limit r (now (work .exit))) ⌝ }
 {
-    let end = top + limit;
-    step(state, closed, &mut work[top..end])
+    note(state, held, 0);
+    let count = state.len();
+    step_held(&held[..2 * count], closed, work, top, limit)
 }
 
-// The type at `top`, `count` words long, moved by one step within the limit.
+// The type at `top`, `count` nodes long, moved by one step within the limit.
 pub(crate) fn step_type(
     closed: bool,
     work: &mut [u16],
     top: usize,
     count: usize,
     limit: usize,
+    held: &mut [u16],
 ) -> Stepped
-    requires { ⌜ (top + limit ≤ length (now work)) × (top + count ≤ length (now work)) × CodesWithin (take count (drop top (now work))) closed ⌝ }
-    ensures { λ r. ⌜ ((b : Term) → take count (drop top (now (work .entry))) ≡ words b → StepsType b (now (work .entry)) top limit r (now (work .exit))) ⌝ }
+    requires { ⌜ length (now held) ≡ held-room ⌝ }
+    requires { ⌜ (2 * (top + limit) ≤ length (now work)) × (limit ≤ longest) × (2 * (top + count) ≤ length (now work)) × HeldWithin (take (2 * count) (drop (2 * top) (now work))) closed ⌝ }
+    ensures { λ r. ⌜ ((b : Term) → take (2 * count) (drop (2 * top) (now (work .entry))) ≡ kept b → StepsType b (now (work .entry)) top limit r (now (work .exit))) ⌝ }
 {
-    let mut copied = [0u16; 1024];
     let end = top + count;
-    copy(&work[top..end], &mut copied, 0);
-    step_into(&copied[..count], closed, work, top, limit)
+    copy(&work[2 * top..2 * end], held, 0);
+    step_held(&held[..2 * count], closed, work, top, limit)
 }

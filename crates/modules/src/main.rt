@@ -328,6 +328,6 @@ fn main() {
     let mut input = io::large_buffer();
     let mut out = io::large_buffer();
     let mut path = io::buffer();
-    let mut work = [0u16; 524288];
+    let mut work = [0u16; 1048576];
     serve(request, &mut input, &mut path, &mut work, &mut out);
 }

@@ -1,7 +1,7 @@
--- The redex by the words alone. The down casts and applications that the words begin with are counted; the kind of the next word
--- and of the word before it decide. By induction on the term: one frame more moves the place by one, and where the part is no
--- frame itself the two words at its front are those that decide.
-use Prim.Native.Nat.{ℕ, zero, suc, pred, _+_, _<_}
+-- The redex by the words alone. The down casts and applications that kept words begin with are counted; the kind of the next
+-- node's word and of the one before it decide. By induction on the term: one frame more moves the node by one, and where the part
+-- is no frame itself the two nodes at its front are those that decide. It goes over the words of the nodes, without the lengths.
+use Prim.Native.Nat.{ℕ, zero, suc, pred, _+_, _*_, _<_}
 use mathlib.Core.Bool.{Bool, true, false, cond}
 use mathlib.Core.List.{List, [], _∷_, map}
 use mathlib.Core.Path.{_≡_, refl, sym, ap, _∙_}
@@ -9,10 +9,11 @@ use native.Mathlib.Omega.{arith}
 use lib.Dec.{eqb}
 use lib.ListN.{length, getD, drop, List·getD-map}
 use lib.Seq.{drop-cons}
-use Rattle.calculus.specs.Term.{Term, var, star, app, lam, pi, castup, castdown, mu}
-use Rattle.calculus.specs.Words.{emit}
+use Rattle.calculus.specs.Term.{Term, var, star, app, lam, pi, castup, castdown, mu, size}
 use Rattle.calculus.specs.Meaning.{meaning}
 use Rattle.calculus.proofs.Meanings.{from-seven}
+use Rattle.term.specs.Kept.{keep, word-at}
+use Rattle.term.proofs.Keeping.{spelled}
 use Rattle.reduction.specs.Stepping.{deeper, at-application, at-castdown, locate, heads}
 use Rattle.reduction.specs.declared.stepping.Redex.{Redex}
 use Rattle.reduction.specs.declared.stepping.Redex.the-variants.{Value, Stuck, Beta, Cancel, Unfold}
@@ -20,8 +21,8 @@ use Rattle.reduction.proofs.Frames.{Frame, applied-to, cast-down, frame
 use Rattle.reduction.proofs.Redexes.{at-node}
 use Rattle.reduction.proofs.WordKinds.{index, kind, framing, no-frame, framing-kind}
 
--- For each kind of word the redex: at place 0, and behind frames, where `n` is the place of the word, `b` that of the word before
--- it and `p` the kind of that.
+-- For each kind of word the redex: at node 0, and behind frames, where `n` is the node of the word, `b` the one before it and `p`
+-- the kind of that one's word.
 abbrev pub outermost : List Redex
 outermost = Value ∷ Stuck ∷ Stuck ∷ Value ∷ Value ∷ Unfold 0 ∷ Value ∷ Stuck ∷ Stuck ∷ []
 
@@ -46,7 +47,7 @@ abbrev pub decide : ℕ → ℕ → ℕ → Redex
 decide n w p = getD (row n p) w Stuck
 
 abbrev pub decided : List ℕ → Redex
-decided ws = decide (heads ws) (kind (getD ws (heads ws) 0)) (kind (getD ws (pred (heads ws)) 0))
+decided ws = decide (heads ws) (kind (getD (spelled ws) (heads ws) 0)) (kind (getD (spelled ws) (pred (heads ws)) 0))
 
 -- A frame more around a frame.
 deeper-cond : (b : Bool) (r : Redex) → deeper (cond b r Stuck) Stuck ≡ cond b (deeper r Stuck) Stuck
@@ -63,84 +64,103 @@ unfolding deeper
 deeper-decide n w p =
     sym (List·getD-map (λ r. deeper r Stuck) (row (suc n) p) w Stuck) ∙ ap (λ l. getD l w Stuck) (deeper-row n p)
 
-heads-frame : (f : Frame) (ws : List ℕ) → heads (frame-word f ∷ ws) ≡ suc (heads ws)
+heads-frame : (f : Frame) (l : ℕ) (ws : List ℕ) → heads (frame-word f ∷ l ∷ ws) ≡ suc (heads ws)
 unfolding frame-word heads
-heads-frame (applied-to u) ws = refl
-heads-frame cast-down ws = refl
+heads-frame (applied-to u) l ws = refl
+heads-frame cast-down l ws = refl
 
-frame-inside : (f g : Frame) (ws : List ℕ)
-    → deeper (decided (frame-word g ∷ ws)) Stuck ≡ decided (frame-word f ∷ frame-word g ∷ ws)
-frame-inside f g ws =
+frame-inside : (f g : Frame) (l m : ℕ) (ws : List ℕ) {r : Redex}
+    → r ≡ decided (frame-word g ∷ m ∷ ws)
+    → deeper r Stuck ≡ decided (frame-word f ∷ l ∷ frame-word g ∷ m ∷ ws)
+unfolding spelled
+frame-inside f g l m ws h =
     rw
-    (heads-frame f (frame-word g ∷ ws), heads-frame g ws)
-    (deeper-decide (heads ws) (kind (getD ws (heads ws) 0)) (kind (getD (frame-word g ∷ ws) (heads ws) 0)))
+    (h, heads-frame f l (frame-word g ∷ m ∷ ws), heads-frame g m ws)
+    (deeper-decide
+    (heads ws)
+    (kind (getD (spelled ws) (heads ws) 0))
+    (kind (getD (frame-word g ∷ spelled ws) (heads ws) 0)))
 
 -- A variable, by itself and in a frame.
-heads-variable : (i : ℕ) (k : List ℕ) → heads ((16 + i) ∷ k) ≡ 0
+heads-variable : (i : ℕ) (k : List ℕ) → heads ((16 + i) ∷ 1 ∷ k) ≡ 0
 unfolding heads
 heads-variable i k = rw (no-frame (16 + i) (omega arith)) refl
 
-variable-decided : (i : ℕ) (k : List ℕ) → Stuck ≡ decided ((16 + i) ∷ k)
-unfolding kind
+variable-decided : (i : ℕ) (k : List ℕ) → Stuck ≡ decided ((16 + i) ∷ 1 ∷ k)
+unfolding kind spelled
 variable-decided i k =
     rw (heads-variable i k) (from-seven (λ m. Stuck ≡ decide 0 (index m) (index m)) (16 + i) (omega arith) refl refl)
 
-variable-inside : (f : Frame) (i : ℕ) (k : List ℕ) → Stuck ≡ decided (frame-word f ∷ (16 + i) ∷ k)
-unfolding kind
-variable-inside f i k =
+variable-inside : (f : Frame) (l i : ℕ) (k : List ℕ) → Stuck ≡ decided (frame-word f ∷ l ∷ (16 + i) ∷ 1 ∷ k)
+unfolding kind spelled
+variable-inside f l i k =
     rw
-    (heads-frame f ((16 + i) ∷ k), heads-variable i k)
+    (heads-frame f l ((16 + i) ∷ 1 ∷ k), heads-variable i k)
     (from-seven (λ m. Stuck ≡ decide 1 (index m) (kind (frame-word f))) (16 + i) (omega arith) refl refl)
 
-fill-decided : (f : Frame) (t : Term) (k : List ℕ)
-    → locate t ≡ decided (emit t k)
-    → deeper (locate t) (at-node f t) ≡ decided (frame-word f ∷ emit t k)
-unfolding emit heads locate deeper at-node at-application at-castdown frame-word kind meaning
-fill-decided (applied-to u) (var i) k h = variable-inside (applied-to u) i k
-fill-decided (applied-to u) star k h = refl
-fill-decided (applied-to u) (app g s) k h =
-    ap (λ r. deeper r Stuck) h ∙ frame-inside (applied-to u) (applied-to s) (emit g (emit s k))
-fill-decided (applied-to u) (lam a e) k h = refl
-fill-decided (applied-to u) (pi a b) k h = refl
-fill-decided (applied-to u) (castup a e) k h = refl
-fill-decided (applied-to u) (castdown e) k h = ap (λ r. deeper r Stuck) h ∙ frame-inside (applied-to u) cast-down (emit e k)
-fill-decided (applied-to u) (mu a e) k h = refl
-fill-decided cast-down (var i) k h = variable-inside cast-down i k
-fill-decided cast-down star k h = refl
-fill-decided cast-down (app g s) k h = ap (λ r. deeper r Stuck) h ∙ frame-inside cast-down (applied-to s) (emit g (emit s k))
-fill-decided cast-down (lam a e) k h = refl
-fill-decided cast-down (pi a b) k h = refl
-fill-decided cast-down (castup a e) k h = refl
-fill-decided cast-down (castdown e) k h = ap (λ r. deeper r Stuck) h ∙ frame-inside cast-down cast-down (emit e k)
-fill-decided cast-down (mu a e) k h = refl
+fill-decided : (f : Frame) (l : ℕ) (t : Term) (k : List ℕ)
+    → locate t ≡ decided (keep t k)
+    → deeper (locate t) (at-node f t) ≡ decided (frame-word f ∷ l ∷ keep t k)
+unfolding keep spelled heads locate deeper at-node at-application at-castdown frame-word kind meaning
+fill-decided (applied-to u) l (var i) k h = variable-inside (applied-to u) l i k
+fill-decided (applied-to u) l star k h = refl
+fill-decided (applied-to u) l (app g s) k h =
+    frame-inside (applied-to u) (applied-to s) l (size (app g s)) (keep g (keep s k)) h
+fill-decided (applied-to u) l (lam a e) k h = refl
+fill-decided (applied-to u) l (pi a b) k h = refl
+fill-decided (applied-to u) l (castup a e) k h = refl
+fill-decided (applied-to u) l (castdown e) k h = frame-inside (applied-to u) cast-down l (size (castdown e)) (keep e k) h
+fill-decided (applied-to u) l (mu a e) k h = refl
+fill-decided cast-down l (var i) k h = variable-inside cast-down l i k
+fill-decided cast-down l star k h = refl
+fill-decided cast-down l (app g s) k h = frame-inside cast-down (applied-to s) l (size (app g s)) (keep g (keep s k)) h
+fill-decided cast-down l (lam a e) k h = refl
+fill-decided cast-down l (pi a b) k h = refl
+fill-decided cast-down l (castup a e) k h = refl
+fill-decided cast-down l (castdown e) k h = frame-inside cast-down cast-down l (size (castdown e)) (keep e k) h
+fill-decided cast-down l (mu a e) k h = refl
 
-pub located : (t : Term) (k : List ℕ) → locate t ≡ decided (emit t k)
-unfolding emit heads locate at-node frame-word kind meaning
+pub located : (t : Term) (k : List ℕ) → locate t ≡ decided (keep t k)
+unfolding keep spelled heads locate at-node frame-word kind meaning
 located (var i) k = variable-decided i k
 located star k = refl
-located (app f u) k = fill-decided (applied-to u) f (emit u k) (located f (emit u k))
+located (app f u) k = fill-decided (applied-to u) (size (app f u)) f (keep u k) (located f (keep u k))
 located (lam a e) k = refl
 located (pi a b) k = refl
 located (castup a e) k = refl
-located (castdown e) k = fill-decided cast-down e k (located e k)
+located (castdown e) k = fill-decided cast-down (size (castdown e)) e k (located e k)
 located (mu a e) k = refl
 
--- There is a word behind the frames.
-pub heads-inside : (t : Term) (k : List ℕ) → heads (emit t k) < length (emit t k)
-unfolding emit heads
+-- There is a node behind the frames.
+pub heads-inside : (t : Term) (k : List ℕ) → 2 * heads (keep t k) + 1 < length (keep t k)
+unfolding keep heads
 heads-inside (var i) k = omega (arith, heads-variable i k)
 heads-inside star k = omega arith
-heads-inside (app f u) k = omega (arith, heads-inside f (emit u k))
+heads-inside (app f u) k = omega (arith, heads-inside f (keep u k))
 heads-inside (lam a e) k = omega arith
 heads-inside (pi a b) k = omega arith
 heads-inside (castup a e) k = omega arith
 heads-inside (castdown e) k = omega (arith, heads-inside e k)
 heads-inside (mu a e) k = omega arith
 
--- Counting goes on behind a frame and ends at any other word.
+-- The word of a node among the words of the nodes.
+pub word-spelled : (ws : List ℕ) (n : ℕ) → 2 * n + 1 < length ws → getD (spelled ws) n 0 ≡ word-at ws n
+unfolding spelled
+word-spelled [] n h = absurd (omega arith)
+word-spelled (w ∷ []) n h = absurd (omega arith)
+word-spelled (w ∷ l ∷ ws) zero h = refl
+word-spelled (w ∷ l ∷ ws) (suc n) h =
+    let twice : suc (suc (2 * n)) ≡ 2 * suc n = omega arith in
+    word-spelled ws n (omega arith) ∙ ap (λ k. getD (w ∷ l ∷ ws) k 0) twice
+
+-- Counting goes on behind a frame and ends at any other node.
 pub heads-at : (ws : List ℕ) (n : ℕ) {b : Bool}
-    → n < length ws
-    → framing (kind (getD ws n 0)) ≡ b
-    → heads (drop n ws) ≡ cond b (suc (heads (drop (suc n) ws))) 0
+    → 2 * n + 1 < length ws
+    → framing (kind (word-at ws n)) ≡ b
+    → heads (drop (2 * n) ws) ≡ cond b (suc (heads (drop (2 * (n + 1)) ws))) 0
 unfolding heads
-heads-at ws n h same = rw (drop-cons ws n 0 h, framing-kind (getD ws n 0), same) refl
+heads-at ws n h same =
+    let twice : suc (suc (2 * n)) ≡ 2 * (n + 1) = omega arith in
+    rw
+    (drop-cons ws (2 * n) 0 (omega arith), drop-cons ws (suc (2 * n)) 0 (omega arith), twice, framing-kind (word-at ws n), same)
+    refl

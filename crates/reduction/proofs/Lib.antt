@@ -1,21 +1,10 @@
 -- The laws behind the functions' proofs, and those that callers of this crate use.
-pub mod Stores
-pub mod Wrote
-pub mod Plain
-pub mod Shapes
-pub mod Changes
-pub mod Passing
-pub mod Tails
-pub mod Turns
-pub mod Rewritten
 pub mod Frames
 pub mod Redexes
 pub mod WordKinds
 pub mod Heads
 pub mod Deciding
-pub mod Arrivals
-pub mod Spans
+pub mod Moving
+pub mod Surrounding
 pub mod Placing
 pub mod Replacing
-pub mod Begun
-pub mod Zeros

@@ -1,92 +1,87 @@
--- The redex in the words: where `locate` says, its words stand, and at place 0 nothing behind them. What it steps to, between the
--- words before it and those behind, is the next state of the whole, since the rest of the term stays as it is.
-use Prim.Native.Nat.{ℕ, _+_, _≤_}
-use mathlib.Core.List.{List, [], _++_}
+-- The redex in the kept words: where `locate` says, it lies. What it steps to, with all that stands around it, is the next state
+-- of the whole, since the rest of the term stays as it is; and that takes more nodes than stand before the redex.
+use Prim.Native.Nat.{ℕ, _+_, _*_, _-_, _≤_, _<_}
+use mathlib.Core.List.{List}
 use mathlib.Core.Path.{_≡_, refl, sym, ap, _∙_, subst}
 use native.Mathlib.Omega.{arith}
-use lib.ListN.{length, take, drop, length-drop}
-use lib.Seq.{take-at, drop-at}
+use lib.ListN.{length, take, drop}
 use Rattle.calculus.specs.Term.{Term, app, lam, castup, castdown, mu, size}
-use Rattle.calculus.specs.Words.{emit, words, Scoped}
-use Rattle.calculus.specs.Kinds as kinds
+use Rattle.calculus.specs.Words.{Scoped, longest}
 use Rattle.calculus.specs.Step.{next, step}
-use Rattle.calculus.proofs.Coding.{emit-length, size-positive, words-injective}
+use Rattle.calculus.proofs.Coding.{size-positive}
+use Rattle.term.specs.Kept.{Lies, kept}
+use Rattle.term.proofs.Nodes.{two-app, two-castup, two-lam, two-mu, size-two}
+use Rattle.term.proofs.Keeping.{kept-injective, lies-body, lies-first, lies-second, lies-taken, lies-within}
 use Rattle.reduction.specs.declared.stepping.Kind.{Kind}
 use Rattle.reduction.specs.declared.stepping.Redex.the-variants as redex
 use Rattle.reduction.specs.declared.stepping.Stepped.{Stepped}
 use Rattle.reduction.specs.declared.stepping.Stepped.the-variants as stepped
-use Rattle.reduction.specs.Stepping.{Arrives, Located, Steps, kind-of, locate}
-use Rattle.reduction.proofs.Frames.{Frame, plug, before, behind, words-plug, step-plug, scoped-inside, nothing-behind}
+use Rattle.kept.specs.Writing.{Puts}
+use Rattle.reduction.specs.Stepping.{Around, Arrives, Located, Steps, kind-of, locate}
+use Rattle.reduction.proofs.Frames.{step-around, scoped-inside}
 use Rattle.reduction.proofs.Redexes.{Inside, splits-at}
+use Rattle.reduction.proofs.Surrounding.{around-lies, around-length, around-within, same-difference}
 
--- The words `ws` have those of `s` at place `at`.
+-- The words `ws` are those of a short term with `s` at the node `at` inside frames.
 pub record Placed (ws : List ℕ) (at : ℕ) (s : Term) : Type 0 where
-  pub rest : List ℕ
-  pub here : drop at ws ≡ emit s rest
-  pub alone : at ≡ 0 → rest ≡ []
-  pub scoped : (t : Term) → ws ≡ words t → (n : ℕ) → Scoped n t → Scoped n s
-  pub steps : (k : kinds.Kind) (x t : Term)
-      → step s ≡ next k x
-      → ws ≡ words t
-      → (y : Term) × (step t ≡ next k y) × (words y ≡ take at ws ++ emit x rest)
+  pub term : Term
+  pub coded : ws ≡ kept term
+  pub short : size term ≤ longest
+  pub put : Term → Term
+  pub around : (x : Term) → Around term at s x (put x)
 
-pub placed-within : {ws : List ℕ} {at : ℕ} {s : Term} → Placed ws at s → at + size s ≤ length ws
-placed-within {ws} {at} {s} p = omega (arith, length-drop at ws, ap length (p .here), emit-length s (p .rest), size-positive s)
-
-placed : {ws : List ℕ} {at : ℕ} {s : Term} (t : Term) → ws ≡ words t → Inside t at s → Placed ws at s
-placed {ws} {at} {s} t coded i =
-    record {
-      rest = behind fs;
-      here = rw split (drop-at (before fs) (emit s (behind fs)) at (i .place));
-      alone = λ zero. nothing-behind fs (i .place ∙ zero);
-      scoped = λ t′ coded′ n h. scoped-inside fs s n (subst (Scoped n) (same t′ coded′) h);
-      steps = λ k x t′ h coded′.
-          (plug fs x, ap step (same t′ coded′) ∙ step-plug fs s h, words-plug fs x ∙ ap (λ l. l ++ emit x (behind fs)) front);
-    }
-  where
-    fs : List Frame
-    fs = i .frames
-
-    split : ws ≡ before fs ++ emit s (behind fs)
-    split = coded ∙ ap words (i .whole) ∙ words-plug fs s
-
-    front : before fs ≡ take at ws
-    front = rw split (sym (take-at (before fs) (emit s (behind fs)) at (i .place)))
-
-    same : (t′ : Term) → ws ≡ words t′ → t′ ≡ plug fs s
-    same t′ coded′ = words-injective t′ t (sym coded′ ∙ coded) ∙ i .whole
+placed : {ws : List ℕ} {at : ℕ} {s : Term} (t : Term) → ws ≡ kept t → size t ≤ longest → Inside t at s → Placed ws at s
+placed t coded short i = record { term = t; coded = coded; short = short; put = i .put; around = i .around }
 
 pub beta-placed : {ws : List ℕ} {at : ℕ}
     → Located ws (redex.Beta at)
     → (a : Term) × (e : Term) × (u : Term) × Placed ws at (app (lam a e) u)
-beta-placed (t, coded, there) =
+beta-placed (t, coded, short, there) =
     let (a, e, u, i) = splits-at t there in
-    (a, e, u, placed t coded i)
+    (a, e, u, placed t coded short i)
 
 pub unfold-placed : {ws : List ℕ} {at : ℕ} → Located ws (redex.Unfold at) → (a : Term) × (e : Term) × Placed ws at (mu a e)
-unfold-placed (t, coded, there) =
+unfold-placed (t, coded, short, there) =
     let (a, e, i) = splits-at t there in
-    (a, e, placed t coded i)
+    (a, e, placed t coded short i)
 
 pub cancel-placed : {ws : List ℕ} {at : ℕ}
     → Located ws (redex.Cancel at)
     → (a : Term) × (e : Term) × Placed ws at (castdown (castup a e))
-cancel-placed (t, coded, there) =
+cancel-placed (t, coded, short, there) =
     let (a, e, i) = splits-at t there in
-    (a, e, placed t coded i)
+    (a, e, placed t coded short i)
 
-pub reaches : {K : Kind} {ws l out after : List ℕ} {at : ℕ} {s x : Term} {r : Stepped} (p : Placed ws at s)
-    → step s ≡ next (kind-of K) x
-    → l ≡ emit x (p .rest)
-    → Arrives K (take at ws ++ l) out r after
-    → (t : Term)
-    → ws ≡ words t
-    → Steps (step t) out r after
-unfolding Steps
-reaches {K} {ws} {l} {out} {after} {at} {s} {x} {r} p h same a t coded =
-    let (y, steps, written) = p .steps (kind-of K) x t h coded in
-    subst (λ n. Steps n out r after) (sym steps)
-    (K, refl, subst (λ e. Arrives K e out r after) (ap (λ e. take at ws ++ e) same ∙ sym written) a)
+module _ {ws : List ℕ} {at : ℕ} {s : Term} (p : Placed ws at s) where
+  pub placed-lies : Lies s ws at
+  placed-lies = around-lies (p .around s) (p .coded)
+
+  pub placed-short : length ws ≤ 2 * longest
+  placed-short = omega (arith, around-length (p .around s) (p .coded), p .short)
+
+  same : (t : Term) → ws ≡ kept t → t ≡ p .term
+  same t coded = kept-injective t (p .term) (sym coded ∙ p .coded)
+
+  pub placed-scoped : (t : Term) → ws ≡ kept t → (n : ℕ) → Scoped n t → Scoped n s
+  placed-scoped t coded n h = scoped-inside (p .around s) n (subst (Scoped n) (same t coded) h)
+
+  module _ (K : Kind) (x : Term) (h : step s ≡ next (kind-of K) x) where
+    pub reaches : {out after : List ℕ} {r : Stepped}
+        → Arrives K (p .put x) out r after
+        → (t : Term)
+        → ws ≡ kept t
+        → Steps (step t) out r after
+    unfolding Steps
+    reaches {out} {after} {r} a t coded =
+        subst (λ n. Steps n out r after) (sym (ap step (same t coded) ∙ step-around (p .around x) h)) (K, refl, a)
+
+    pub no-room : (out : List ℕ) → length out < 2 * at → (t : Term) → ws ≡ kept t → Steps (step t) out stepped.Full out
+    no-room out lacks =
+        reaches
+        record {
+          fits = λ all. absurd (omega (arith, around-within (p .around x) (p .coded), same-difference (p .around x)));
+          full = λ _. (refl, refl);
+        }
 
 -- Where there is no redex, the term is a value or stuck.
 pub value-stays : (out : List ℕ) (t : Term) → locate t ≡ redex.Value → Steps (step t) out stepped.Value out
@@ -96,3 +91,50 @@ value-stays out t h = rw (splits-at t h) (refl, refl)
 pub stuck-stays : (out : List ℕ) (t : Term) → locate t ≡ redex.Stuck → Steps (step t) out stepped.Stuck out
 unfolding Steps
 stuck-stays out t h = rw (splits-at t h) (refl, refl)
+
+-- A term that lies in a slice has a node there; the words from its node to its end are its own.
+pub lies-node : {t : Term} {slice : List ℕ} {n : ℕ} → Lies t slice n → 2 * n + 1 < length slice
+lies-node {t} l = omega (arith, lies-within l, size-positive t)
+
+pub lies-part : {t : Term} {slice : List ℕ} {n end : ℕ}
+    → Lies t slice n
+    → end ≡ n + size t
+    → take (2 * end - 2 * n) (drop (2 * n) slice) ≡ kept t
+lies-part {t} {slice} {n} {end} l ends =
+    let count : 2 * end - 2 * n ≡ 2 * size t = omega arith in
+    ap (λ k. take k (drop (2 * n) slice)) count ∙ lies-taken l
+
+-- Copied, they are the kept words of the term.
+pub puts-part : {t : Term} {slice out after : List ℕ} {n end at r : ℕ}
+    → Lies t slice n
+    → end ≡ n + size t
+    → Puts (take (2 * end - 2 * n) (drop (2 * n) slice)) out at r after
+    → Puts (kept t) out at r after
+puts-part {out = out} {after} {at = at} {r} l ends = subst (λ e. Puts e out at r after) (lies-part l ends)
+
+to : {t : Term} {slice : List ℕ} {m : ℕ} (n : ℕ) → m ≡ n → Lies t slice m → Lies t slice n
+to {t} {slice} n h = subst (Lies t slice) h
+
+-- The parts of each redex, by the places that the code computes.
+module _ {slice : List ℕ} {at : ℕ} where
+  pub function-annotation : {a e u : Term} → Lies (app (lam a e) u) slice at → Lies a slice (at + 2)
+  function-annotation l = to (at + 2) (omega arith) (lies-first two-lam (lies-first two-app l))
+
+  pub function-body : {a e u : Term} {n : ℕ} → Lies (app (lam a e) u) slice at → n ≡ size a → Lies e slice (at + 2 + n)
+  function-body {n = n} l h = to (at + 2 + n) (omega arith) (lies-second two-lam (lies-first two-app l))
+
+  pub argument : {a e u : Term} {n m : ℕ}
+      → Lies (app (lam a e) u) slice at
+      → n ≡ size a
+      → m ≡ size e
+      → Lies u slice (at + 2 + n + m)
+  argument {a} {e} {n = n} {m} l h g = to (at + 2 + n + m) (omega (arith, size-two two-lam a e)) (lies-second two-app l)
+
+  pub recursion-body : {a e : Term} {n : ℕ} → Lies (mu a e) slice at → n ≡ size a → Lies e slice (at + 1 + n)
+  recursion-body {n = n} l h = to (at + 1 + n) (omega arith) (lies-second two-mu l)
+
+  pub cast-annotation : {a e : Term} → Lies (castdown (castup a e)) slice at → Lies a slice (at + 2)
+  cast-annotation l = to (at + 2) (omega arith) (lies-first two-castup (lies-body l))
+
+  pub cast-body : {a e : Term} {n : ℕ} → Lies (castdown (castup a e)) slice at → n ≡ size a → Lies e slice (at + 2 + n)
+  cast-body {n = n} l h = to (at + 2 + n) (omega arith) (lies-second two-castup (lies-body l))

@@ -1,21 +1,18 @@
--- `locate` tells where a term steps: the redex that it answers stands at that place inside frames. By induction on the term: the
+-- `locate` tells where a term steps: the redex that it answers stands at that node inside frames. By induction on the term: the
 -- redex of a part is the redex of the whole, one frame further in; where the part has none, the form of the part decides.
 use Prim.Native.Nat.{ℕ, suc}
-use mathlib.Core.List.{List, [], _∷_}
 use mathlib.Core.Path.{_≡_, refl, ap, subst, _∙_}
-use lib.ListN.{length}
 use Rattle.calculus.specs.Term.{Term, var, star, app, lam, pi, castup, castdown, mu}
 use Rattle.calculus.specs.Step.{value, stuck, under, applied, cancelled, step}
-use Rattle.reduction.specs.Stepping.{deeper, at-application, at-castdown, locate}
+use Rattle.reduction.specs.Stepping.{Around, here, deeper, at-application, at-castdown, locate}
 use Rattle.reduction.specs.declared.stepping.Redex.{Redex}
 use Rattle.reduction.specs.declared.stepping.Redex.the-variants.{Value, Stuck, Beta, Cancel, Unfold}
-use Rattle.reduction.proofs.Frames.{Frame, applied-to, cast-down, fill, plug, before, steps-itself, step-fill}
+use Rattle.reduction.proofs.Frames.{Frame, applied-to, cast-down, fill, steps-itself, step-fill, around-fill}
 
--- The part `s` of `t` stands at place `n` inside frames.
+-- The part `s` of `t` stands at the node `n` inside frames: whatever is put in its place, `t` becomes a term with it there.
 pub record Inside (t : Term) (n : ℕ) (s : Term) : Type 0 where
-  pub frames : List Frame
-  pub whole : t ≡ plug frames s
-  pub place : length (before frames) ≡ n
+  pub put : Term → Term
+  pub around : (x : Term) → Around t n s x (put x)
 
 abbrev pub Splits : Term → Redex → Type 0
 Splits t Value = step t ≡ value
@@ -25,12 +22,10 @@ Splits t (Cancel n) = (a : Term) × (e : Term) × Inside t n (castdown (castup a
 Splits t (Unfold n) = (a : Term) × (e : Term) × Inside t n (mu a e)
 
 outermost : (t : Term) → Inside t 0 t
-unfolding plug before
-outermost t = record { frames = []; whole = refl; place = refl }
+outermost t = record { put = λ x. x; around = λ x. here }
 
 one-further : (f : Frame) {t s : Term} {n : ℕ} → Inside t n s → Inside (fill f t) (suc n) s
-unfolding plug before
-one-further f i = record { frames = f ∷ i .frames; whole = ap (fill f) (i .whole); place = ap suc (i .place) }
+one-further f i = record { put = λ x. fill f (i .put x); around = λ x. around-fill f (i .around x) }
 
 -- What `locate` says of the node itself.
 unfoldable pub at-node : Frame → Term → Redex

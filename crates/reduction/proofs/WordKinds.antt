@@ -13,7 +13,8 @@ use Rattle.calculus.specs.Meaning as calculus
 use Rattle.calculus.specs.Meaning.{a-star, a-castdown, an-app, a-castup, a-lam, a-pi, a-mu, a-variable, nothing, meaning}
 use Rattle.calculus.proofs.Meanings.{by-word, from-seven}
 use Rattle.term.specs.declared.word.Meaning.{Meaning}
-use Rattle.term.specs.declared.word.Meaning.the-variants.{Star, CastDown, Application, CastUp, Abstraction, Product, Recursion, Variable, Nothing}
+use Rattle.term.specs.declared.word.Meaning.the-variants.{Star, CastDown, Application, CastUp, Abstraction, Product}
+use Rattle.term.specs.declared.word.Meaning.the-variants.{Recursion, Variable, Nothing}
 use Rattle.term.specs.Word.{meaning-of}
 use Rattle.term.proofs.Visits.{tag, Each, at-one}
 

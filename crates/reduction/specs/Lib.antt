@@ -1,4 +1,2 @@
 -- What the contracts of this crate cite.
-pub mod Writing
-pub mod Rewriting
 pub mod Stepping

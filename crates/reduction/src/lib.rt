@@ -1,5 +1,2 @@
-// Raising, substitution and one step, from parts of shared slices into a `&mut` slice with bounded room; and clearing a slice.
-pub mod clearing;
-pub mod copying;
-pub mod rewriting;
+// One step over kept terms, from a shared slice into a `&mut` slice with bounded room.
 pub mod stepping;

@@ -1,19 +1,24 @@
 // One step (document 002, A.2): where the redex is and by which rule, and writing the next state.
-use crate::copying::Room;
-use crate::copying::copy;
-use crate::rewriting::substitute;
-use term::walk::span;
+use kept::copying::Room;
+use kept::copying::copy;
+use kept::keeping::length_at;
+use kept::keeping::narrow;
+use kept::rewriting::copy_nodes;
+use kept::rewriting::substitute;
 use term::word::Meaning;
 use term::word::classify;
+ghost use mathlib.Core.List.{List};
 ghost use mathlib.Core.Path.{_≡_};
-ghost use Prim.Native.Nat.{_≤_, _+_};
-ghost use lib.ListN.{length, drop};
-ghost use Rattle.calculus.specs.Term.{Term};
-ghost use Rattle.calculus.specs.Words.{words};
-ghost use Rattle.term.specs.Walk.{span};
-ghost use Rattle.reduction.specs.Stepping.{Arrives, Coded, CodesWithin, Finishes, Located, Replaceable, Tells, heads, locate, replaced};
+ghost use Prim.Native.Nat.{ℕ, _+_, _*_, _≤_};
+ghost use lib.ListN.{length, take};
+ghost use lib.Seq.{sets};
+ghost use Rattle.calculus.specs.Term.{Term, size};
+ghost use Rattle.calculus.specs.Words.{longest};
+ghost use Rattle.term.specs.Kept.{kept};
+ghost use Rattle.reduction.specs.Stepping.{Around, Arrives, Held, HeldWithin, Located, Movable, Tells, heads, locate, moved};
+ghost use Rattle.kept.specs.Writing.{Puts};
 
-// Where a state steps and by which rule: the place of the application, of the down cast or of the recursion.
+// Where a state steps and by which rule: the node of the application, of the down cast or of the recursion.
 pub enum Redex {
     Value,
     Stuck,
@@ -41,9 +46,10 @@ pub enum Stepped {
 fn leading(state: &[u16]) -> usize
     ensures { λ r. ⌜ r ≡ heads (now (state .entry)) ⌝ }
 {
+    let count = state.len() / 2;
     let mut at = 0;
-    while at < state.len() {
-        match classify(state[at]) {
+    while at < count {
+        match classify(state[2 * at]) {
             Meaning::CastDown | Meaning::Application => {}
             _ => {
                 return at;
@@ -56,11 +62,11 @@ fn leading(state: &[u16]) -> usize
 
 // The redex of a state: the half of a step that writes nothing.
 pub fn find_redex(state: &[u16]) -> Redex
-    requires { ⌜ Coded (now state) ⌝ }
-    ensures { λ r. ⌜ ((t : Term) → now (state .entry) ≡ words t → r ≡ locate t) ⌝ }
+    requires { ⌜ Held (now state) ⌝ }
+    ensures { λ r. ⌜ ((t : Term) → now (state .entry) ≡ kept t → r ≡ locate t) ⌝ }
 {
     let at = leading(state);
-    match classify(state[at]) {
+    match classify(state[2 * at]) {
         Meaning::Recursion => Redex::Unfold(at),
         Meaning::Star | Meaning::Product => {
             if at == 0 {
@@ -72,7 +78,7 @@ pub fn find_redex(state: &[u16]) -> Redex
             if at == 0 {
                 return Redex::Value;
             }
-            if let Meaning::Application = classify(state[at - 1]) {
+            if let Meaning::Application = classify(state[2 * (at - 1)]) {
                 return Redex::Beta(at - 1);
             }
             Redex::Stuck
@@ -81,7 +87,7 @@ pub fn find_redex(state: &[u16]) -> Redex
             if at == 0 {
                 return Redex::Value;
             }
-            if let Meaning::CastDown = classify(state[at - 1]) {
+            if let Meaning::CastDown = classify(state[2 * (at - 1)]) {
                 return Redex::Cancel(at - 1);
             }
             Redex::Stuck
@@ -91,109 +97,91 @@ pub fn find_redex(state: &[u16]) -> Redex
     }
 }
 
-// The place behind the redex at `at`, whose last part begins at `last`. Nothing stands behind a redex at place 0.
-fn behind(state: &[u16], at: usize, last: usize) -> usize
-    requires { ⌜ (last ≤ length (now state)) × (at ≡ 0 → last + span (drop last (now state)) 1 ≡ length (now state)) ⌝ }
-    ensures { λ r. ⌜ (r ≡ last + span (drop last (now (state .entry))) 1) × (r ≤ length (now (state .entry))) ⌝ }
+// Writes the nodes before `at` with their lengths moved: what stood in them up to the node `old` ends at `end` now.
+fn lead(state: &[u16], at: usize, old: usize, end: usize, out: &mut [u16])
+    requires { ⌜ (2 * at ≤ length (now state)) × (2 * at ≤ length (now out)) × (old ≤ longest) × (end ≤ longest) × Movable old end (take (2 * at) (now state)) ⌝ }
+    ensures { λ _. ⌜ now (out .exit) ≡ sets (now (out .entry)) 0 (moved old end (take (2 * at) (now (state .entry)))) ⌝ }
 {
-    if at == 0 {
-        return state.len();
+    let mut node = 0;
+    while node < at {
+        out[2 * node] = state[2 * node];
+        out[2 * node + 1] = state[2 * node + 1] + narrow(end) - narrow(old);
+        node += 1;
     }
-    last + span(&state[last..])
 }
 
-// Writes what stands before `at`, then the body with the argument put in, then what stands from `end` on.
-fn replace(
-    kind: Kind,
-    state: &[u16],
-    at: usize,
-    body: &[u16],
-    argument: &[u16],
-    closed: bool,
-    end: usize,
-    out: &mut [u16],
-) -> Stepped
-    requires { ⌜ Replaceable (now state) at end (now body) (now argument) closed ⌝ }
-    ensures { λ r. ⌜ Arrives kind (replaced (now (state .entry)) at end (now (body .entry)) (now (argument .entry)))
-        (now (out .entry)) r (now (out .exit)) ⌝ }
+// Writes what stands around the redex at `at`, where what it steps to was written up to the node `end`, if it fits.
+fn surround(kind: Kind, state: &[u16], at: usize, end: usize, out: &mut [u16]) -> Stepped
+    requires { ⌜ ((t : Term) × (s : Term) × (x : Term) × (y : Term) × (first : List ℕ) × Around t at s x y × (now state ≡ kept t) × (size t ≤ longest) × (length first ≤ 2 * longest) × Puts (kept x) first at end (now out)) ⌝ }
+    ensures { λ r. ⌜ ((t s x y : Term) (first : List ℕ) → Around t at s x y → now (state .entry) ≡ kept t → Puts (kept x) first at end (now (out .entry)) → Arrives kind y first r (now (out .exit))) ⌝ }
 {
-    let Room::To(from) = copy(&state[..at], out, 0) else {
+    if out.len() < 2 * end {
         return Stepped::Full;
-    };
-    let Room::To(next) = substitute(body, argument, closed, out, from) else {
-        return Stepped::Full;
-    };
-    finish(kind, &state[end..], out, next)
-}
-
-// Writes the last words of the next state, to which a step of this kind leads.
-fn finish(kind: Kind, rest: &[u16], out: &mut [u16], at: usize) -> Stepped
-    requires { ⌜ at ≤ length (now out) ⌝ }
-    ensures { λ r. ⌜ Finishes kind (now (rest .entry)) (now (out .entry)) at r (now (out .exit)) ⌝ }
-{
-    match copy(rest, out, at) {
-        Room::Full => Stepped::Full,
-        Room::To(end) => Stepped::To(kind, end),
     }
+    let old = at + length_at(state, at);
+    let Room::To(last) = copy(&state[2 * old..], out, 2 * end) else {
+        return Stepped::Full;
+    };
+    lead(state, at, old, end, out);
+    Stepped::To(kind, last / 2)
 }
 
 // S_BETA at the application at `at`.
 fn beta(state: &[u16], at: usize, closed: bool, out: &mut [u16]) -> Stepped
-    requires { ⌜ CodesWithin (now state) closed × Located (now state) (Redex.Beta at) ⌝ }
+    requires { ⌜ HeldWithin (now state) closed × Located (now state) (Redex.Beta at) × (length (now out) ≤ 2 * longest) ⌝ }
     ensures { λ r. ⌜ Tells (now (state .entry)) (now (out .entry)) r (now (out .exit)) ⌝ }
 {
+    if out.len() < 2 * at {
+        return Stepped::Full;
+    }
     let annotation = at + 2;
-    let body = annotation + span(&state[annotation..]);
-    let argument = body + span(&state[body..]);
-    let end = behind(state, at, argument);
-    replace(
-        Kind::Substitution,
+    let body = annotation + length_at(state, annotation);
+    let argument = body + length_at(state, body);
+    let behind = at + length_at(state, at);
+    let end = substitute(
         state,
-        at,
-        &state[body..argument],
-        &state[argument..end],
+        body,
+        &state[2 * argument..2 * behind],
         closed,
-        end,
         out,
-    )
+        at,
+    );
+    surround(Kind::Substitution, state, at, end, out)
 }
 
 // S_MU at the recursion at `at`.
 fn unfold(state: &[u16], at: usize, closed: bool, out: &mut [u16]) -> Stepped
-    requires { ⌜ CodesWithin (now state) closed × Located (now state) (Redex.Unfold at) ⌝ }
+    requires { ⌜ HeldWithin (now state) closed × Located (now state) (Redex.Unfold at) × (length (now out) ≤ 2 * longest) ⌝ }
     ensures { λ r. ⌜ Tells (now (state .entry)) (now (out .entry)) r (now (out .exit)) ⌝ }
 {
+    if out.len() < 2 * at {
+        return Stepped::Full;
+    }
     let annotation = at + 1;
-    let body = annotation + span(&state[annotation..]);
-    let end = behind(state, at, body);
-    replace(
-        Kind::Unfolding,
-        state,
-        at,
-        &state[body..end],
-        &state[at..end],
-        closed,
-        end,
-        out,
-    )
+    let body = annotation + length_at(state, annotation);
+    let behind = at + length_at(state, at);
+    let end = substitute(state, body, &state[2 * at..2 * behind], closed, out, at);
+    surround(Kind::Unfolding, state, at, end, out)
 }
 
 // S_CASTDOWNUP at the down cast at `at`.
 fn cancel(state: &[u16], at: usize, out: &mut [u16]) -> Stepped
-    requires { ⌜ Located (now state) (Redex.Cancel at) ⌝ }
+    requires { ⌜ Located (now state) (Redex.Cancel at) × (length (now out) ≤ 2 * longest) ⌝ }
     ensures { λ r. ⌜ Tells (now (state .entry)) (now (out .entry)) r (now (out .exit)) ⌝ }
 {
-    let annotation = at + 2;
-    let body = annotation + span(&state[annotation..]);
-    let Room::To(next) = copy(&state[..at], out, 0) else {
+    if out.len() < 2 * at {
         return Stepped::Full;
-    };
-    finish(Kind::Cancellation, &state[body..], out, next)
+    }
+    let annotation = at + 2;
+    let body = annotation + length_at(state, annotation);
+    let behind = at + length_at(state, at);
+    let end = copy_nodes(&state[2 * body..2 * behind], out, at);
+    surround(Kind::Cancellation, state, at, end, out)
 }
 
 // The next state of `state`, written to the front of `out`; `closed` where the state is a closed term.
 pub fn step(state: &[u16], closed: bool, out: &mut [u16]) -> Stepped
-    requires { ⌜ CodesWithin (now state) closed ⌝ }
+    requires { ⌜ HeldWithin (now state) closed × (length (now out) ≤ 2 * longest) ⌝ }
     ensures { λ r. ⌜ Tells (now (state .entry)) (now (out .entry)) r (now (out .exit)) ⌝ }
 {
     match find_redex(state) {

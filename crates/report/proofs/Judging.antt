@@ -13,7 +13,7 @@ use Rattle.calculus.specs.Words.{words, longest}
 use Rattle.calculus.specs.Scan.{read}
 use Rattle.calculus.specs.Infer.{infer}
 use Rattle.calculus.specs.Run.{Ended, run-from}
-use Rattle.calculus.specs.Outcomes.{check-room, run-room, begun, cleared, verdict, checked, check, alone, course, ran, run-by, run}
+use Rattle.calculus.specs.Outcomes.{check-room, run-room, begun, cleared, verdict, checked, check-by, check, alone, course, ran, run-by, run}
 use Rattle.calculus.proofs.Comparisons.{le-leb}
 use Rattle.calculus.proofs.Coding.{emit-append, words-length}
 use Rattle.calculus.proofs.NumberInjective.{number-not-zero}
@@ -86,8 +86,8 @@ same-lines a b c d = cc
 
 -- A call of a check with room enough.
 module _ (ws W O : List ℕ) (room : check-room limit ≤ length W) (space : limit ≤ length O) where
-  checks : check ws limit W O ≡ checked limit W O (read ws >>= λ t. infer limit [] 0 t)
-  unfolding check verdict require _>>_ _>>=_
+  checks : check ws limit W O ≡ checked (check-room limit) W O (read ws >>= λ t. infer limit [] 0 t)
+  unfolding check-by verdict require _>>_ _>>=_
   checks = rw (le-leb (check-room limit) (length W) room, le-leb limit (length O) space) refl
 
   -- Refused, it is told as it is answered.
@@ -100,7 +100,7 @@ module _ (ws W O : List ℕ) (room : check-room limit ≤ length W) (space : lim
     where
       on : {x : Answer Term} {y : Answer (Term × Ended)}
           → Judges ws x y
-          → Numbered-check (checked limit W O x) n W₁ O₁
+          → Numbered-check (checked (check-room limit) W O x) n W₁ O₁
           → Tells (told y) (refusal (n .answer) (n .place)) O O₁ S S
       on (typed e) k = absurd (some (ap (λ x. x .answer) (k .numbers)))
       on untyped k =
@@ -123,14 +123,14 @@ module _ (ws W O : List ℕ) (room : check-room limit ≤ length W) (space : lim
     where
       on : {x : Answer Term} {y : Answer (Term × Ended)}
           → Judges ws x y
-          → Numbered-check (checked limit W O x) n W₁ O₁
+          → Numbered-check (checked (check-room limit) W O x) n W₁ O₁
           → Tells (told y) (found n m k) O O₁ S S₂
       on (typed {t} {τ} d) c =
           let x : Ended = run-from (min budget allowance) t in
           let clear : run-room ≤ length W₁ = omega (arith, ap length (c .work), length-cleared (check-room limit) W) in
-          let runs : run ws budget 0 (alone allowance) W₁ S ≡ ran 0 (alone allowance) W₁ S (ok x)
+          let runs : run ws budget 0 (alone allowance) W₁ S ≡ ran run-room 0 (alone allowance) W₁ S (ok x)
           = rw (le-leb run-room (length W₁) clear, le-leb longest (length S) free, d) refl in
-          let r : Numbered-run (ran 0 (alone allowance) W₁ S (ok x)) m W₂ S₂ = rw runs at g in
+          let r : Numbered-run (ran run-room 0 (alone allowance) W₁ S (ok x)) m W₂ S₂ = rw runs at g in
           let count : k ≡ size (x .state) = e ∙ ap (λ l. span l 1) (r .state) ∙ begun-span (x .state) S in
           let type : take (n .length) O₁ ≡ words τ = ap₂ take (ap (λ y. y .length) (c .numbers)) (c .output) ∙ begun-words τ O in
           let state : take k S₂ ≡ words (x .state) = ap₂ take count (r .state) ∙ begun-words (x .state) S in

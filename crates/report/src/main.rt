@@ -48,7 +48,7 @@ fn judge(term: &[u16], output: &mut [u16], state: &mut [u16]) -> Findings
     ensures { λ r. ⌜ Tells (told (judged (now (term .entry)))) r
         (now (output .entry)) (now (output .exit)) (now (state .entry)) (now (state .exit)) ⌝ }
 {
-    let mut work = [0u16; 16384];
+    let mut work = [0u16; 32768];
     let checked = feguavy_check(term, 32, &mut work, output);
     let answer = checked.answer;
     if answer != 0 {

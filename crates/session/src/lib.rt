@@ -239,7 +239,7 @@ fn serve_on(
 pub fn serve(program: &[u8], keeps: bool) {
     let mut input = io::large_buffer();
     let mut words = [0u16; 1025];
-    let mut work = [0u16; 524288];
+    let mut work = [0u16; 1048576];
     let mut out = io::large_buffer();
     serve_on(program, keeps, &mut input, &mut words, &mut work, &mut out);
 }

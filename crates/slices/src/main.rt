@@ -10,7 +10,7 @@ use text::front;
 ghost use Prim.Native.Nat.{_≤_};
 
 // The longest slices that are lent: three words more than a check asks for at the greatest limit.
-const WORK: usize = 524291;
+const WORK: usize = 1048579;
 
 const RESULT: usize = 1027;
 
@@ -217,14 +217,14 @@ fn run_parts(
 
 // A run on slices of `room` and `size` words.
 fn run_on(term: &[u16], asked: Asked, room: usize, size: usize) {
-    let mut work = [0u16; 4099];
+    let mut work = [0u16; 8195];
     let mut result = [0u16; RESULT];
     run_parts(term, asked, &mut work, room, &mut result, size);
 }
 
 // A check at each boundary length for a limit.
 fn check_all(term: &[u16], limit: u32) {
-    let room = least(512 * (limit as usize), WORK);
+    let room = least(1024 * (limit as usize), WORK);
     let size = least(limit as usize, RESULT);
     check_on(term, limit, room, size);
     check_on(term, limit, least(room + 3, WORK), least(size + 3, RESULT));
@@ -253,11 +253,11 @@ fn check_limits(term: &[u16]) {
 
 // A run at each boundary length.
 fn run_all(term: &[u16], asked: Asked) {
-    run_on(term, asked, 4096, 1024);
-    run_on(term, asked, 4099, 1027);
-    run_on(term, asked, 4095, 1024);
-    run_on(term, asked, 4096, 1023);
-    run_on(term, asked, 4095, 1023);
+    run_on(term, asked, 8192, 1024);
+    run_on(term, asked, 8195, 1027);
+    run_on(term, asked, 8191, 1024);
+    run_on(term, asked, 8192, 1023);
+    run_on(term, asked, 8191, 1023);
     run_on(term, asked, 0, 0);
 }
 

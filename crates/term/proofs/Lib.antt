@@ -7,4 +7,7 @@ pub mod Stacked
 pub mod Turns
 pub mod Whole
 pub mod Finding
+pub mod Nodes
+pub mod Keeping
+pub mod KeptLengths
 pub mod Maps

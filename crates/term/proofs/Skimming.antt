@@ -6,9 +6,10 @@ use mathlib.Core.Path.{_≡_, refl, ap, _∙_}
 use native.Mathlib.Numerals.{add-one}
 use lib.ListN.{length, getD, drop, drop-of-length-le}
 use lib.Seq.{drop-cons, drop-drop}
-use Rattle.calculus.specs.Answer.{ok, refused, _>>=_, list-ends}
-use Rattle.calculus.specs.Scan.{Pending, below}
-use Rattle.term.specs.Subterms.{skim, visited}
+use Rattle.calculus.specs.Answer.{ok, refused, _>>_, list-ends}
+use Rattle.calculus.specs.Meaning.{meaning, binds}
+use Rattle.calculus.specs.Scan.{Pending, test, below}
+use Rattle.term.specs.Subterms.{skim}
 
 pub skim-none : (ws : List ℕ) (p : ℕ) → skim ws [] p ≡ ok p
 unfolding skim
@@ -23,7 +24,7 @@ behind whole p e = ap (drop 1) e ∙ drop-drop 1 p whole ∙ ap (λ n. drop n wh
 pub skim-word : (ws : List ℕ) (p : ℕ) (s : Pending) (ss : List Pending)
     → p < length ws
     → skim (drop p ws) (s ∷ ss) p
-    ≡ (visited (getD ws p 0) s p >>= λ ks. skim (drop (p + 1) ws) (map (below s) ks ++ ss) (p + 1))
+    ≡ (test (meaning (getD ws p 0)) s p >> skim (drop (p + 1) ws) (map (below s) (binds (meaning (getD ws p 0))) ++ ss) (p + 1))
 unfolding skim
 skim-word ws p s ss h = rw (drop-cons ws p 0 h, add-one p) refl
 

@@ -1,19 +1,22 @@
--- The one loop of reading: where it stands, and what a turn makes of that by what the word at hand is. The subterm at hand comes
--- first of those that are pending; a refusal ends the reading, a leaf leaves it to the next one pending, and a node to its parts.
-use Prim.Native.Nat.{ℕ, _+_, _-_, _≤_, _<_}
+-- The one loop of reading: where it stands, and what a turn makes of that. The subterm at hand comes first of those that are
+-- pending. A refusal ends the reading; a word that passes leaves it to its parts and to what was pending, which are the entries that
+-- count after the turn: where none does, the reading is at its end, and otherwise the last is the next subterm at hand.
+use Prim.Native.Nat.{ℕ, suc, _+_, _-_, _≤_, _<_}
 use mathlib.Core.List.{List, [], _∷_, _++_, map}
-use mathlib.Core.Path.{_≡_, refl, sym, ap, _∙_}
-use native.Mathlib.Nat.{add-zero}
+use mathlib.Core.Path.{_≡_, refl, sym, ap, _∙_, subst}
 use native.Mathlib.Omega.{arith}
 use lib.Dec.{lit≤}
-use lib.ListN.{length, getD, set, drop, length-set}
+use lib.ListN.{length, getD, drop}
 use Rattle.calculus.specs.Words.{deepest}
-use Rattle.calculus.specs.Answer.{Reason, ok, refused, _>>=_, list-ends}
-use Rattle.calculus.specs.Scan.{Pending, below}
-use Rattle.term.specs.Subterms.{pending, skim, visited}
+use Rattle.calculus.specs.Answer.{Reason, ok, refused, _>>=_, _>>_, list-ends}
+use Rattle.calculus.specs.Meaning.{meaning, binds}
+use Rattle.calculus.specs.Scan.{Pending, test, below}
+use Rattle.term.specs.Subterms.{pending, skim}
+use Rattle.term.specs.Word.{arity, second}
 use Rattle.term.proofs.Skimming.{skim-none, skim-word, skim-end}
-use Rattle.term.proofs.Stacked.{stacked, stacked-length, stored, taken}
-use Rattle.term.proofs.Visits.{has-level, binds-one}
+use Rattle.term.proofs.Stacked.{stacked, stacked-length, two-rooms, two-scopes, length-two, parts-stored, taken}
+use Rattle.term.proofs.Visits.{has-level}
+use Rattle.term.proofs.Words.{Parted, no-part, one-part, two-parts, parted, few-binds}
 
 -- A node takes a level where it leaves a part pending and where it binds a variable, so neither is done more than `deepest`
 -- times.
@@ -26,105 +29,108 @@ unfoldable pub Fitting : List Pending → Type 0
 Fitting [] = Unit
 Fitting (s ∷ ss) = Fits (length ss) (s .room) (s .binders) × Fitting ss
 
+parts-fit : {ks : List ℕ} (s : Pending) (ss : List Pending)
+    → 0 < s .room
+    → Parted ks
+    → Fitting (s ∷ ss)
+    → Fitting (map (below s) ks ++ ss)
+unfolding Fitting below
+parts-fit s ss level no-part (fits, others) = others
+parts-fit s ss level one-part (fits, others) =
+    (record { few = omega (arith, fits .few); shallow = omega (arith, fits .shallow) }, others)
+parts-fit s ss level (two-parts k h) (fits, others) =
+    let second : Fits (length ss) (s .room - 1) (s .binders + k) = record { few = omega (arith, fits .few); shallow = omega (arith, fits .shallow) } in
+    (record { few = omega (arith, fits .few); shallow = omega (arith, fits .shallow) }, (second, others))
+
 -- The reading of all words stands at place `p`, with `n` subterms pending behind the one at hand.
 pub record Stands (ws rooms scopes : List ℕ) (n p room b : ℕ) : Type 0 where
   pub within : p ≤ length ws
-  pub many-rooms : length rooms ≡ deepest
-  pub many-scopes : length scopes ≡ deepest
-  pub fits : Fits n room b
-  pub waiting : Fitting (stacked rooms scopes n)
+  pub many-rooms : length rooms ≡ suc deepest
+  pub many-scopes : length scopes ≡ suc deepest
+  pub fitting : Fitting (pending room b ∷ stacked rooms scopes n)
   pub same : skim ws (pending deepest 0 ∷ []) 0 ≡ skim (drop p ws) (pending room b ∷ stacked rooms scopes n) p
 
-pub begins : (ws rooms scopes : List ℕ) → length rooms ≡ deepest → length scopes ≡ deepest → Stands ws rooms scopes 0 0 deepest 0
+pub begins : (ws rooms scopes : List ℕ)
+    → length rooms ≡ suc deepest
+    → length scopes ≡ suc deepest
+    → Stands ws rooms scopes 0 0 deepest 0
 unfolding stacked Fitting
 begins ws rooms scopes many-rooms many-scopes =
     record {
       within = omega arith;
       many-rooms = many-rooms;
       many-scopes = many-scopes;
-      fits = record { few = lit≤ tt; shallow = lit≤ tt };
-      waiting = tt;
+      fitting = (record { few = lit≤ tt; shallow = lit≤ tt }, tt);
       same = refl;
     }
 
 module _ {ws rooms scopes : List ℕ} {n p room b : ℕ} (s : Stands ws rooms scopes n p room b) where
+  pub fits : Fits n room b
+  unfolding Fitting
+  fits = rw (stacked-length rooms scopes n) at (s .fitting .0)
+
   pub short : length ws ≤ p → refused list-ends p ≡ skim ws (pending deepest 0 ∷ []) 0
   short h = sym (s .same ∙ skim-end ws p (pending room b) (stacked rooms scopes n) h)
 
   module _ (inside : p < length ws) where
     pub turn-refused : {r : Reason}
-        → refused r p ≡ visited (getD ws p 0) (pending room b) p
+        → refused r p ≡ test (meaning (getD ws p 0)) (pending room b) p
         → refused r p ≡ skim ws (pending deepest 0 ∷ []) 0
-    unfolding _>>=_
+    unfolding _>>=_ _>>_
     turn-refused e = rw (s .same, skim-word ws p (pending room b) (stacked rooms scopes n) inside, ← e) refl
 
-    -- The word's parts come next, and then what was pending.
-    after-word : {ks : List ℕ}
-        → ok ks ≡ visited (getD ws p 0) (pending room b) p
-        → skim ws (pending deepest 0 ∷ []) 0
-        ≡ skim (drop (p + 1) ws) (map (below (pending room b)) ks ++ stacked rooms scopes n) (p + 1)
-    unfolding _>>=_
-    after-word e = rw (s .same, skim-word ws p (pending room b) (stacked rooms scopes n) inside, ← e) refl
+    module _ (e : ok tt ≡ test (meaning (getD ws p 0)) (pending room b) p) where
+      abbrev parts : List ℕ
+      parts = binds (meaning (getD ws p 0))
 
-    pub turn-last : n ≡ 0 → ok [] ≡ visited (getD ws p 0) (pending room b) p → ok (p + 1) ≡ skim ws (pending deepest 0 ∷ []) 0
-    unfolding stacked
-    turn-last none e = rw (after-word e, none) (sym (skim-none (drop (p + 1) ws) (p + 1)))
+      pub level : 0 < room
+      level = has-level (meaning (getD ws p 0)) (pending room b) p e
 
-    pub turn-leaf : 0 < n
-        → ok [] ≡ visited (getD ws p 0) (pending room b) p
-        → Stands ws rooms scopes (n - 1) (p + 1) (getD rooms (n - 1) 0) (getD scopes (n - 1) 0)
-    unfolding Fitting
-    turn-leaf some e =
-        let (next, others) = rw (taken rooms scopes n some) at (s .waiting) in
-        record {
-          within = omega arith;
-          many-rooms = s .many-rooms;
-          many-scopes = s .many-scopes;
-          fits = rw (stacked-length rooms scopes (n - 1)) at next;
-          waiting = others;
-          same = after-word e ∙ ap (λ l. skim (drop (p + 1) ws) l (p + 1)) (taken rooms scopes n some);
-        }
-
-    pub turn-one : ok (0 ∷ []) ≡ visited (getD ws p 0) (pending room b) p → Stands ws rooms scopes n (p + 1) (room - 1) b
-    unfolding below
-    turn-one e =
-        record {
-          within = omega arith;
-          many-rooms = s .many-rooms;
-          many-scopes = s .many-scopes;
-          fits = record { few = omega (arith, s .fits .few); shallow = omega (arith, s .fits .shallow) };
-          waiting = s .waiting;
-          same = rw (after-word e, add-zero b) refl;
-        }
-
-    module _ {k : ℕ} (e : ok (0 ∷ k ∷ []) ≡ visited (getD ws p 0) (pending room b) p) where
-      level : 0 < room
-      level = has-level (getD ws p 0) (pending room b) p e
-
-      pub second-fits : Fits (n + 1) (room - 1) (b + k)
+      -- A second part would fit: it is stored whether there is one or not.
+      pub second-fits : Fits (n + 1) (room - 1) (b + second parts)
       second-fits =
           let some = level in
-          let one : k ≤ 1 = binds-one (getD ws p 0) (pending room b) p e in
-          record { few = omega (arith, s .fits .few); shallow = omega (arith, s .fits .shallow) }
+          let one = few-binds (meaning (getD ws p 0)) .1 in
+          record { few = omega (arith, fits .few); shallow = omega (arith, fits .shallow) }
 
-      room-free : n < length rooms
-      room-free = omega (arith, level, s .fits .few, s .many-rooms)
+      -- The word's parts come next, and then what was pending.
+      abbrev next : List Pending
+      next = map (below (pending room b)) parts ++ stacked rooms scopes n
 
-      scope-free : n < length scopes
-      scope-free = omega (arith, level, s .fits .few, s .many-scopes)
+      after-word : skim ws (pending deepest 0 ∷ []) 0 ≡ skim (drop (p + 1) ws) next (p + 1)
+      unfolding _>>=_ _>>_
+      after-word = rw (s .same, skim-word ws p (pending room b) (stacked rooms scopes n) inside, ← e) refl
 
-      pub turn-two : Stands ws (set rooms n (room - 1)) (set scopes n (b + k)) (n + 1) (p + 1) (room - 1) b
-      unfolding below Fitting
-      turn-two =
-          let one-more = stored rooms scopes n (room - 1) (b + k) room-free scope-free in
+      -- That is what the arrays hold after the turn.
+      abbrev rooms′ : List ℕ
+      rooms′ = two-rooms rooms n room
+
+      abbrev scopes′ : List ℕ
+      scopes′ = two-scopes scopes n b (second parts)
+
+      after-stores : stacked rooms′ scopes′ (n + arity (getD ws p 0)) ≡ next
+      unfolding arity
+      after-stores =
+          parts-stored
+          rooms scopes n room b
+          (omega (arith, second-fits .few, s .many-rooms))
+          (omega (arith, second-fits .few, s .many-scopes))
+          (parted (meaning (getD ws p 0)))
+
+      pub turn-last : n + arity (getD ws p 0) ≡ 0 → ok (p + 1) ≡ skim ws (pending deepest 0 ∷ []) 0
+      unfolding stacked
+      turn-last none = rw (after-word, ← after-stores, none) (sym (skim-none (drop (p + 1) ws) (p + 1)))
+
+      pub turn-next : 0 < n + arity (getD ws p 0)
+          → let last = n + arity (getD ws p 0) - 1 in
+          Stands ws rooms′ scopes′ last (p + 1) (getD rooms′ last 0) (getD scopes′ last 0)
+      turn-next some =
+          let front = taken rooms′ scopes′ (n + arity (getD ws p 0)) some in
           record {
             within = omega arith;
-            many-rooms = length-set rooms n (room - 1) ∙ s .many-rooms;
-            many-scopes = length-set scopes n (b + k) ∙ s .many-scopes;
-            fits = record { few = second-fits .few; shallow = omega (arith, second-fits .shallow) };
-            waiting =
-                rw
-                (one-more, stacked-length rooms scopes n)
-                (record { few = omega (arith, second-fits .few); shallow = second-fits .shallow }, s .waiting);
-            same = rw (after-word e, add-zero b, one-more) refl;
+            many-rooms = length-two rooms n (room - 1) (room - 1) ∙ s .many-rooms;
+            many-scopes = length-two scopes n (b + second parts) b ∙ s .many-scopes;
+            fitting =
+                subst Fitting (sym after-stores ∙ front) (parts-fit (pending room b) (stacked rooms scopes n) level (parted _) (s .fitting));
+            same = after-word ∙ ap (λ l. skim (drop (p + 1) ws) l (p + 1)) (sym after-stores ∙ front);
           }

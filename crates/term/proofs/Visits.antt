@@ -1,66 +1,69 @@
--- The tests of one word, in the order 5, 8, 9, by what the word means: the first that fails answers, and where all pass the parts
--- do. The code knows the meaning as a variant, most often only by the number of the variant, its tag. Only a variable needs more
--- than that: for every other variant the tag tells how the tests end and what is bound in a second part.
-use Prim.Native.Nat.{ℕ, _≤_, _<_}
+-- The tests of one word, in the order 5, 8, 9, by what the word means: the first that fails answers. The code knows the meaning as a
+-- variant, most often only by the number of the variant, its tag. Only a variable needs more than that: for every other variant the
+-- tag tells how the tests end and what is bound in a second part.
+use Prim.Native.Nat.{ℕ, suc, _<_}
 use mathlib.Core.Bool.{Bool, true, false, not, true≢false}
 use mathlib.Core.List.{List, [], _∷_}
 use mathlib.Core.Logic.{inl, inr}
-use mathlib.Core.Path.{_≡_, refl, sym, ap, _∙_, subst}
-use borrow.Author.Tests.{lt-ltb, le-ltb}
-use lib.Dec.{T, ltb, eqb, ltb→lt}
+use mathlib.Core.Path.{_≡_, refl, sym, _∙_, subst}
+use borrow.Author.Tests.{lt-ltb}
+use lib.Dec.{T, leb, ltb, eqb, ltb→lt}
 use lib.ListN.{getD}
 use types.Run.{OneOf}
 use denote.Enum.Declared.{tagOf}
 use Rattle.calculus.specs.Answer.{ok, refused, _>>=_, _>>_, require, no-meaning, level-65, unbound}
 use Rattle.calculus.specs.Meaning as calculus
-use Rattle.calculus.specs.Meaning.{a-variable, nothing, meaning, binds}
+use Rattle.calculus.specs.Meaning.{a-variable, nothing, binds}
 use Rattle.calculus.specs.Scan.{means, bound, test, Pending}
-use Rattle.calculus.proofs.Comparisons.{passed}
+use Rattle.calculus.proofs.Comparisons.{passed, both, gt-leb}
 use Rattle.term.specs.declared.word.Meaning.{Meaning}
 use Rattle.term.specs.declared.word.Meaning.the-variants.{Star, CastDown, Application, CastUp, Abstraction, Product, Recursion, Variable, Nothing}
 use Rattle.term.specs.Word.{meaning-of, second}
-use Rattle.term.specs.Subterms.{pending, visited}
-use Rattle.term.proofs.Words.{few-binds}
+use Rattle.term.specs.Subterms.{inside, pending}
 use Rattle.term.proofs.word.Meaning.{the-type}
 
-module _ {m : calculus.Meaning} (w room b p : ℕ) (e : meaning w ≡ m) where
-  pub meaningless : m ≡ nothing → refused no-meaning p ≡ visited w (pending room b) p
-  unfolding visited test means require _>>=_ _>>_
-  meaningless h = rw (e, h) refl
+module _ (m : calculus.Meaning) (room b p : ℕ) where
+  pub meaningless : m ≡ nothing → refused no-meaning p ≡ test m (pending room b) p
+  unfolding test means require _>>=_ _>>_
+  meaningless h = rw h refl
 
-  pub too-deep : T (means m) → room ≡ 0 → refused level-65 p ≡ visited w (pending room b) p
-  unfolding visited test require _>>=_ _>>_
-  too-deep h none = rw (e, passed (means m) h, none) refl
+  pub too-deep : T (means m) → room ≡ 0 → refused level-65 p ≡ test m (pending room b) p
+  unfolding test require _>>=_ _>>_
+  too-deep meant none = rw (passed (means m) meant, none) refl
 
-  pub outside : {i : ℕ} → m ≡ a-variable i → 0 < room → b ≤ i → refused unbound p ≡ visited w (pending room b) p
-  unfolding visited test means bound require _>>=_ _>>_
-  outside h deep free = rw (e, h, lt-ltb 0 room deep, le-ltb _ b free) refl
+  pub outside : T (means m) → 0 < room → inside m b ≡ false → refused unbound p ≡ test m (pending room b) p
+  unfolding test require _>>=_ _>>_
+  outside meant deep free =
+      let free′ : bound m b ≡ false = rw (passed (means m) meant) at free in
+      rw (passed (means m) meant, lt-ltb 0 room deep, free′) refl
 
-  pub passes : {ks : List ℕ} → T (means m) → 0 < room → T (bound m b) → binds m ≡ ks → ok ks ≡ visited w (pending room b) p
-  unfolding visited test require _>>=_ _>>_
-  passes meant deep inside parts =
-      rw (e, passed (means m) meant, lt-ltb 0 room deep, passed (bound m b) inside) (ap ok (sym parts))
+  pub passes : inside m b ≡ true → 0 < room → ok tt ≡ test m (pending room b) p
+  unfolding test require _>>=_ _>>_
+  passes h deep =
+      let (meant, scoped) = both (means m) (bound m b) (rw h tt) in
+      rw (passed (means m) meant, lt-ltb 0 room deep, passed (bound m b) scoped) refl
 
--- The other way: a word that passes has a level, and binds at most one variable in a second part.
-tested : {ks js : List ℕ} (p : ℕ) (a b c : Bool)
-    → ok js ≡ (require no-meaning p a >> (require level-65 p b >> require unbound p c) >> ok ks)
-    → T b × (js ≡ ks)
+-- The other way: a word that passes has a level.
+level : (p : ℕ) (a b c : Bool)
+    → ok tt ≡ (require no-meaning p a >> (require level-65 p b >> require unbound p c))
+    → T b
 unfolding require _>>=_ _>>_
-tested p true true true e = (tt, cc)
-tested p true true false e = absurd (true≢false cc)
-tested p true false c e = absurd (true≢false cc)
-tested p false b c e = absurd (true≢false cc)
+level p true true c e = tt
+level p true false c e = absurd (true≢false cc)
+level p false b c e = absurd (true≢false cc)
 
-module _ {ks : List ℕ} (w : ℕ) (s : Pending) (p : ℕ) (e : ok ks ≡ visited w s p) where
-  answers : T (ltb 0 (s .room)) × (ks ≡ binds (meaning w))
-  unfolding visited test
-  answers = tested p (means (meaning w)) (ltb 0 (s .room)) (bound (meaning w) (s .binders)) e
+pub has-level : (m : calculus.Meaning) (s : Pending) (p : ℕ) → ok tt ≡ test m s p → 0 < s .room
+unfolding test
+has-level m s p e = ltb→lt 0 (s .room) (level p (means m) (ltb 0 (s .room)) (bound m (s .binders)) e)
 
-  pub has-level : 0 < s .room
-  has-level = ltb→lt 0 (s .room) (answers .0)
+-- So many binders are needed: a word stands under them, and under no fewer.
+pub variable-needs : {m : calculus.Meaning} (i n b : ℕ) → m ≡ a-variable i → n ≡ suc i → leb n b ≡ inside m b
+unfolding means bound
+variable-needs i n b e more = rw (e, more) refl
 
-  pub binds-one : second ks ≤ 1
-  binds-one = rw (answers .1) (few-binds (meaning w) .1)
+pub nothing-needs : {m : calculus.Meaning} (n b : ℕ) → m ≡ nothing → b < n → leb n b ≡ inside m b
+unfolding means
+nothing-needs n b e few = rw (e, gt-leb n b few) refl
 
 -- The place of a variant in its enum.
 abbrev pub tag : Meaning → ℕ
@@ -90,21 +93,21 @@ meant (Variable i) h = tt
 meant Nothing h = elim h [ ]
 
 -- A word of any variant but the variable is inside its binders, however many there are.
-inside : (m : Meaning) → T (not (eqb (tag m) 7)) → (b : ℕ) → T (bound (meaning-of m) b)
+bound-by-tag : (m : Meaning) → T (not (eqb (tag m) 7)) → (b : ℕ) → T (bound (meaning-of m) b)
 unfolding bound
-inside Star h b = tt
-inside CastDown h b = tt
-inside Application h b = tt
-inside CastUp h b = tt
-inside Abstraction h b = tt
-inside Product h b = tt
-inside Recursion h b = tt
-inside (Variable i) h b = elim h [ ]
-inside Nothing h b = tt
+bound-by-tag Star h b = tt
+bound-by-tag CastDown h b = tt
+bound-by-tag Application h b = tt
+bound-by-tag CastUp h b = tt
+bound-by-tag Abstraction h b = tt
+bound-by-tag Product h b = tt
+bound-by-tag Recursion h b = tt
+bound-by-tag (Variable i) h b = elim h [ ]
+bound-by-tag Nothing h b = tt
 
 pub no-variable : (m : Meaning) → OneOf (0 ∷ 1 ∷ 2 ∷ 3 ∷ 4 ∷ 5 ∷ 6 ∷ 8 ∷ []) (tag m) → (b : ℕ) → T (bound (meaning-of m) b)
 no-variable m one =
-    inside
+    bound-by-tag
     m
     (at-one
     (λ t. T (not (eqb t 7)))
@@ -112,6 +115,22 @@ no-variable m one =
     (tt, (tt, (tt, (tt, (tt, (tt, (tt, (tt, tt))))))))
     (tag m)
     one)
+
+-- A word of any variant but the variable and the one that means nothing stands anywhere.
+pub anywhere : (m : Meaning) → OneOf (0 ∷ 1 ∷ 2 ∷ 3 ∷ 4 ∷ 5 ∷ 6 ∷ []) (tag m) → (b : ℕ) → inside (meaning-of m) b ≡ true
+anywhere m one b = rw (passed (means n) (meant m (neither .0)), passed (bound n b) (bound-by-tag m (neither .1) b)) refl
+  where
+    n : calculus.Meaning
+    n = meaning-of m
+
+    neither : T (not (eqb (tag m) 8)) × T (not (eqb (tag m) 7))
+    neither =
+        at-one
+        (λ t. T (not (eqb t 8)) × T (not (eqb t 7)))
+        (0 ∷ 1 ∷ 2 ∷ 3 ∷ 4 ∷ 5 ∷ 6 ∷ [])
+        ((tt, tt), ((tt, tt), ((tt, tt), ((tt, tt), ((tt, tt), ((tt, tt), ((tt, tt), tt)))))))
+        (tag m)
+        one
 
 -- What each variant binds in a second part, in the order of the enum.
 abbrev pub seconds : List ℕ

@@ -94,10 +94,6 @@ passed (mu a e) = two-parts 6 a e refl (passed a) (passed e)
 pub span-emit : (t : Term) (k : List ℕ) → span (emit t k) 1 ≡ size t
 span-emit t k = passed t k 0 ∙ omega (arith, span-none k)
 
-pub span-words : (t : Term) → span (words t) 1 ≡ size t
-unfolding words
-span-words t = span-emit t []
-
 -- A list that is not refused is read as a term, and is the words of that term.
 pub read-term : (ws : List ℕ) → outcome (read ws) ≡ ok tt → (t : Term) × (read ws ≡ ok t)
 read-term ws = on (read ws)

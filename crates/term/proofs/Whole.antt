@@ -13,7 +13,7 @@ use Rattle.calculus.specs.Words.{longest, deepest}
 use Rattle.calculus.specs.Answer.{Reason, Answer, ok, refused, _>>=_, _>>_, require, length-not-allowed, words-after}
 use Rattle.calculus.specs.Meaning.{meaning, binds}
 use Rattle.calculus.specs.Scan.{test, node, the-first, Pending, below, scan, read}
-use Rattle.term.specs.Subterms.{outcome, pending, skim, visited}
+use Rattle.term.specs.Subterms.{outcome, pending, skim}
 use Rattle.term.proofs.Skimming.{behind}
 
 -- At the place behind the terms nothing is left, or a word over.
@@ -35,18 +35,18 @@ outcome-map (refused r p) f = refl
 
 -- A word's test before the rest of a scan and of a skim.
 after-test : (x : Answer (Unit {0})) (y : Answer (List Term)) (f : List Term → List Term)
-    (ks : List ℕ) (g : List ℕ → Answer ℕ) (h : ℕ → Answer (Unit {0}))
-    → outcome y ≡ (g ks >>= h)
-    → outcome (x >> (y >>= λ ts. ok (f ts))) ≡ (x >> ok ks >>= g >>= h)
+    (z : Answer ℕ) (h : ℕ → Answer (Unit {0}))
+    → outcome y ≡ (z >>= h)
+    → outcome (x >> (y >>= λ ts. ok (f ts))) ≡ (x >> z >>= h)
 unfolding _>>=_ _>>_
-after-test (ok u) y f ks g h e = outcome-map y f ∙ e
-after-test (refused r p) y f ks g h e = refl
+after-test (ok u) y f z h e = outcome-map y f ∙ e
+after-test (refused r p) y f z h e = refl
 
 scan-skim : (rest whole : List ℕ) (p : ℕ)
     → rest ≡ drop p whole
     → (ss : List Pending)
     → outcome (scan rest ss p) ≡ (skim rest ss p >>= left-over whole)
-unfolding scan skim visited _>>=_
+unfolding scan skim _>>=_
 scan-skim [] whole p e [] = sym (none-over whole p (omega (arith, ap length e, length-drop p whole)))
 scan-skim [] whole p e (s ∷ ss) = refl
 scan-skim (w ∷ ws) whole p e [] = sym (some-over whole p (omega (arith, ap length e, length-drop p whole)))
@@ -55,8 +55,7 @@ scan-skim (w ∷ ws) whole p e (s ∷ ss) =
     (test (meaning w) s p)
     (scan ws (map (below s) (binds (meaning w)) ++ ss) (suc p))
     (node (meaning w))
-    (binds (meaning w))
-    (λ ks. skim ws (map (below s) ks ++ ss) (suc p))
+    (skim ws (map (below s) (binds (meaning w)) ++ ss) (suc p))
     (left-over whole)
     (scan-skim ws whole (suc p) (behind whole p e) (map (below s) (binds (meaning w)) ++ ss))
 

@@ -4,3 +4,4 @@ pub mod Walk
 pub mod Reasons
 pub mod Subterms
 pub mod Found
+pub mod Kept

@@ -2,16 +2,18 @@
 use crate::refusal::Reason;
 use crate::refusal::Refusal;
 use crate::word::Meaning;
-use crate::word::Shape;
+use crate::word::bound;
 use crate::word::classify;
-use crate::word::shape_of;
+use crate::word::parts;
 use crate::word::wide;
 ghost use mathlib.Core.Path.{_≡_};
 ghost use Prim.Native.Nat.{ℕ, _≤_};
 ghost use mathlib.Core.List.{[], _∷_};
+ghost use lib.Dec.{leb};
 ghost use Rattle.calculus.specs.Words.{deepest};
-ghost use Rattle.calculus.specs.Scan.{read};
-ghost use Rattle.term.specs.Subterms.{outcome, pending, reading-of, skim, subterm-of, visit-of, visited};
+ghost use Rattle.calculus.specs.Meaning.{meaning};
+ghost use Rattle.calculus.specs.Scan.{read, test};
+ghost use Rattle.term.specs.Subterms.{inside, outcome, pending, reading-of, skim, subterm-of, visit-of};
 
 // A list is one closed term, or it is refused.
 pub enum Reading {
@@ -25,29 +27,42 @@ enum Subterm {
     Refused(Refusal),
 }
 
-// One word, tested: what follows it.
+// One word, tested.
 enum Visit {
-    Passes(Shape),
+    Passes,
     Refused(Reason),
 }
 
-// The tests of one word, "in the order 5, 8, 9".
-fn tested(word: u16, room: usize, binders: usize) -> Visit
-    ensures { λ r. ⌜ ((p : ℕ) → visit-of r p ≡ visited word (pending room binders) p) ⌝ }
+// How many binders a word needs around it: a variable one more than its index, and a word that means nothing more than there ever
+// are. Of the sum on 16 bits the compiler makes no branch, as it does of one on 64 (docs/SHAPES.md).
+fn needed(word: u16) -> u16
+    ensures { λ r. ⌜ ((b : ℕ) → b ≤ deepest → leb r b ≡ inside (meaning word) b) ⌝ }
 {
-    let meaning = classify(word);
-    if let Meaning::Nothing = meaning {
+    match classify(word) {
+        Meaning::Variable(index) => index + 1,
+        Meaning::Nothing => 65,
+        _ => 0,
+    }
+}
+
+// The tests of one word. Whether it passes them all is asked first, by tests that go the same way for almost every word; only where
+// it does not they are gone through, "in the order 5, 8, 9".
+fn tested(word: u16, room: usize, binders: usize) -> Visit
+    requires { ⌜ binders ≤ deepest ⌝ }
+    ensures { λ r. ⌜ ((p : ℕ) → visit-of r p ≡ test (meaning word) (pending room binders) p) ⌝ }
+{
+    if 0 < room {
+        if wide(needed(word)) <= binders {
+            return Visit::Passes;
+        }
+    }
+    if let Meaning::Nothing = classify(word) {
         return Visit::Refused(Reason::NoMeaning);
     }
     if room == 0 {
         return Visit::Refused(Reason::Level65);
     }
-    if let Meaning::Variable(index) = meaning {
-        if binders <= wide(index) {
-            return Visit::Refused(Reason::Unbound);
-        }
-    }
-    Visit::Passes(shape_of(word))
+    Visit::Refused(Reason::Unbound)
 }
 
 // The levels and the binders of a pending subterm are kept in bytes: neither is above 64.
@@ -64,46 +79,42 @@ fn from_byte(byte: u8) -> usize
     byte as usize
 }
 
-// Reads the closed term that the words begin with. The second of two parts is pending while the first is read: `rooms` and
-// `scopes` hold the levels left for each pending subterm and the binders around it, the one that comes next last.
+// Reads the closed term that the words begin with. `rooms` and `scopes` hold the levels left for each pending subterm and the
+// binders around it, the one that comes next last. Every word stores what holds in two parts, the first behind the second, whether
+// it has them or not, and its number of parts says how many of these entries count: so no branch depends on what the word is, which
+// the processor cannot foresee.
 fn read_first(words: &[u16]) -> Subterm
     ensures { λ r. ⌜ subterm-of r ≡ skim (now (words .entry)) (pending deepest 0 ∷ []) 0 ⌝ }
 {
-    let mut rooms = [0u8; 64];
-    let mut scopes = [0u8; 64];
+    let mut rooms = [0u8; 65];
+    let mut scopes = [0u8; 65];
     let mut waiting = 0;
     let mut at = 0;
     let mut room = 64;
     let mut binders = 0;
     while at < words.len() {
-        match tested(words[at], room, binders) {
+        let word = words[at];
+        match tested(word, room, binders) {
             Visit::Refused(reason) => {
                 return Subterm::Refused(Refusal { reason, place: at });
             }
-            Visit::Passes(shape) => {
-                let count = shape.parts;
-                match count {
-                    0 => {
-                        if waiting == 0 {
-                            return Subterm::Ends(at + 1);
-                        }
-                        waiting -= 1;
-                        room = from_byte(rooms[waiting]);
-                        binders = from_byte(scopes[waiting]);
-                    }
-                    1 => {
-                        room -= 1;
-                    }
-                    _ => {
-                        room -= 1;
-                        rooms[waiting] = to_byte(room);
-                        scopes[waiting] = to_byte(binders + wide(shape.bound));
-                        waiting += 1;
-                    }
+            Visit::Passes => {
+                let left = to_byte(room - 1);
+                let first = waiting + 1;
+                rooms[waiting] = left;
+                rooms[first] = left;
+                scopes[waiting] = to_byte(binders + wide(bound(word)));
+                scopes[first] = to_byte(binders);
+                waiting += parts(word);
+                at += 1;
+                if waiting == 0 {
+                    return Subterm::Ends(at);
                 }
+                waiting -= 1;
+                room = from_byte(rooms[waiting]);
+                binders = from_byte(scopes[waiting]);
             }
         }
-        at += 1;
     }
     Subterm::Refused(Refusal {
         reason: Reason::ListEnds,

@@ -52,8 +52,8 @@ pub struct Shape {
     pub bound: u16,
 }
 
-// How many variables a word binds in its second part.
-fn bound(word: u16) -> u16
+// How many variables a word binds in its second part; none where it has no second part.
+pub(crate) fn bound(word: u16) -> u16
     ensures { λ r. ⌜ r ≡ second (binds (meaning word)) ⌝ }
 {
     match classify(word) {
@@ -62,7 +62,8 @@ fn bound(word: u16) -> u16
     }
 }
 
-// The shape of a word, from the number of its parts and from what the word means. Nothing else tells which parts a word has.
+// The shape of a word, from the number of its parts and from what the word means: the two functions that this asks, and nothing
+// else, tell which parts a word has.
 pub fn shape_of(word: u16) -> Shape
     ensures { λ r. ⌜ shape-of r ≡ binds (meaning word) ⌝ }
 {

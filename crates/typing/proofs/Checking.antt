@@ -1,7 +1,7 @@
 -- What a check answers at each way out, as the demand on checks states it. Past the tests of the call and of reading, the words are
 -- those of a closed term, which inference takes as a subject with no context. Whatever inference left in the working slice is cleared,
 -- and the type that it found is what the output then begins with.
-use Prim.Native.Nat.{ℕ, suc, _-_, _≤_}
+use Prim.Native.Nat.{ℕ, suc, _-_, _*_, _≤_}
 use mathlib.Core.Bool.{true≢false}
 use mathlib.Core.List.{List, [], _++_}
 use mathlib.Core.Path.{_≡_, refl, sym, ap, _∙_, subst}
@@ -25,9 +25,8 @@ use Rattle.term.specs.Reasons.{reason-of}
 use Rattle.term.specs.Subterms.{outcome}
 use Rattle.term.specs.declared.refusal.Refusal.{Refusal}
 use Rattle.term.proofs.Walking.{reads-refusal}
-use Rattle.reduction.specs.declared.copying.Room.{Room}
-use Rattle.reduction.specs.Writing.{Writes}
-use Rattle.reduction.proofs.Begun.{writes-begun, cleared-same}
+use Rattle.term.specs.Kept.{kept}
+use Rattle.kept.proofs.Begun.{cleared-same}
 use Rattle.typing.specs.declared.Checked.{Checked}
 use Rattle.typing.specs.declared.Checked.the-variants as checked
 use Rattle.inference.specs.declared.Inferred.{Inferred}
@@ -97,23 +96,26 @@ pub record Asked (ws : List ℕ) (L : ℕ) (W O : List ℕ) (r : Inferred) (afte
   pub places : List ℕ
   pub places′ : List ℕ
   pub infers : Infers (infer L [] place term) term places 0 (take (check-room L) W) 0 r after places′
-  pub kept : length after ≡ length (take (check-room L) W)
+  pub same : length after ≡ length (take (check-room L) W)
 
 module _ {ws : List ℕ} {L : ℕ} {W O : List ℕ} {r : Inferred} {after : List ℕ} (a : Asked ws L W O r after) where
-  open Asked a using (admitted, term, coded, readable, place, outermost, places, places′, infers, kept)
+  open Asked a using (admitted, term, coded, readable, place, outermost, places, places′, infers, same)
   open Admitted admitted using (allowed, room, out)
 
   long : length after ≡ check-room L
-  long = kept ∙ length-take-le (check-room L) W room
+  long = same ∙ length-take-le (check-room L) W room
 
-  cleared-all : cleared (check-room L) (after ++ drop (check-room L) W) ≡ cleared (check-room L) W
+  -- Two blocks for each word of the limit are the room.
+  cleared-all : cleared (512 * (2 * L)) (after ++ drop (check-room L) W) ≡ cleared (check-room L) W
   cleared-all =
-      cleared-same (check-room L) (check-room L) (after ++ drop (check-room L) W) W (le-refl (check-room L))
+      let blocks : 512 * (2 * L) ≡ check-room L = omega arith in
+      ap (λ n. cleared n (after ++ drop (check-room L) W)) blocks
+      ∙ cleared-same (check-room L) (check-room L) (after ++ drop (check-room L) W) W (le-refl (check-room L))
       (drop-at after (drop (check-room L) W) (check-room L) long)
 
   pub untyped-out : {f : Refusal} {work′ : List ℕ}
       → r ≡ inferred.Refused f
-      → work′ ≡ cleared (check-room L) (after ++ drop (check-room L) W)
+      → work′ ≡ cleared (512 * (2 * L)) (after ++ drop (check-room L) W)
       → checked-of (checked.Refused f) work′ O ≡ check ws L W O
   untyped-out {f} q e =
       let x = subst (λ n. infer L [] n term ≡ refused (reason-of (f .reason)) (f .place)) outermost (turned infers) in
@@ -133,21 +135,23 @@ module _ {ws : List ℕ} {L : ℕ} {W O : List ℕ} {r : Inferred} {after : List
     type-short : m ≤ L
     type-short = omega (arith, type-long, inferred-fits L place term env-empty (readable .closed) found)
 
-    pub type-within : m ≤ length (after ++ drop (check-room L) W)
+    pub type-within : 2 * m ≤ length (after ++ drop (check-room L) W)
     type-within = omega (arith, type-short, long, length-append after (drop (check-room L) W))
 
-    pub typed-out : {o : Room} {work′ output′ : List ℕ}
-        → Writes (take m (after ++ drop (check-room L) W)) O 0 o output′
-        → work′ ≡ cleared (check-room L) (after ++ drop (check-room L) W)
+    -- The type, as it is spelled.
+    pub type-kept : take (2 * m) (after ++ drop (check-room L) W) ≡ kept τ
+    type-kept = take-append-le (2 * m) after (drop (check-room L) W) (omega (arith, type-short, long)) ∙ lies
+
+    pub type-fits : size τ ≤ length O
+    type-fits = omega (arith, out, type-short, type-long)
+
+    pub typed-out : {work′ output′ : List ℕ}
+        → ((x : Term) → take (2 * m) (after ++ drop (check-room L) W) ≡ kept x → output′ ≡ begun (words x) O)
+        → work′ ≡ cleared (512 * (2 * L)) (after ++ drop (check-room L) W)
         → checked-of (checked.Typed m) work′ output′ ≡ check ws L W O
-    typed-out {work′} {output′} w e =
+    typed-out {work′} {output′} s e =
         let d = infer-sound 0 env-empty (readable .closed) (subst (λ k. infer L [] k term ≡ ok τ) outermost found) in
-        let fits : size τ ≤ length O = omega (arith, out, type-short, type-long) in
-        let source : take m (after ++ drop (check-room L) W) ≡ words τ =
-        take-append-le m after (drop (check-room L) W) (omega (arith, type-short, long)) ∙ lies in
-        let many = ap length source ∙ words-length τ in
-        let begins : output′ ≡ begun (words τ) O = writes-begun w (omega arith) ∙ ap (λ front. begun front O) source in
         ap (λ k. checked-of (checked.Typed k) work′ output′) type-long
         ∙ ap (λ l. checked-of (checked.Typed (size τ)) l output′) (e ∙ cleared-all)
-        ∙ ap (checked-of (checked.Typed (size τ)) (cleared (check-room L) W)) begins
+        ∙ ap (checked-of (checked.Typed (size τ)) (cleared (check-room L) W)) (s τ type-kept)
         ∙ sym (check-answer ws L W O (typed allowed room out (coded, readable) d))

@@ -1,8 +1,8 @@
 // The check (document 01, Calls): the type of a closed term within a limit, or the first rule that fails.
 use inference::Inferred;
 use inference::infer;
-use reduction::clearing::clear;
-use reduction::copying::copy;
+use kept::clearing::clear;
+use kept::keeping::spell;
 use term::reading::Reading;
 use term::reading::read;
 use term::refusal::Reason;
@@ -34,7 +34,7 @@ pub fn check(term: &[u16], limit: u32, work: &mut [u16], output: &mut [u16]) -> 
         return refused(Reason::LimitNotAllowed);
     }
     let longest = limit as usize;
-    if work.len() < 512 * longest {
+    if work.len() < 1024 * longest {
         return refused(Reason::WorkShort);
     }
     if output.len() < longest {
@@ -44,15 +44,25 @@ pub fn check(term: &[u16], limit: u32, work: &mut [u16], output: &mut [u16]) -> 
         return Checked::Refused(refusal);
     }
     let mut context = [0u16; 64];
-    let room = 512 * longest;
-    match infer(term, term, &mut context, 0, &mut work[..room], 0, longest) {
+    let mut held = [0u16; 4096];
+    let room = 1024 * longest;
+    match infer(
+        term,
+        term,
+        &mut context,
+        0,
+        &mut work[..room],
+        0,
+        longest,
+        &mut held,
+    ) {
         Inferred::Refused(refusal) => {
-            clear(work, longest);
+            clear(work, 2 * longest);
             Checked::Refused(refusal)
         }
         Inferred::Typed(_, length) => {
-            copy(&work[..length], output, 0);
-            clear(work, longest);
+            spell(&work[..2 * length], output);
+            clear(work, 2 * longest);
             Checked::Typed(length)
         }
     }

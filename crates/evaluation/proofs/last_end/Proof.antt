@@ -13,7 +13,7 @@ use Rattle.reduction.specs.declared.stepping.Redex.{Redex}
 use Rattle.reduction.specs.declared.stepping.Redex.the-variants as redex
 use Rattle.reduction.specs.Stepping.{locate}
 use Rattle.reduction.proofs.stepping.Redex.{the-type}
-use Rattle.reduction.proofs.Frames.{step-plug}
+use Rattle.reduction.proofs.Frames.{step-around}
 use Rattle.reduction.proofs.Redexes.{Inside, splits-at}
 use Rattle.evaluation.proofs.last_end.Statement.{statement}
 use Rattle.evaluation.proofs.last_end.Tie as tie
@@ -21,7 +21,7 @@ use Rattle.evaluation.proofs.last_end.Tie as tie
 -- A state whose part steps has a next one.
 goes-on : {x s y : Term} {n : ℕ} {k : Kind} → Inside x n s → step s ≡ next k y → spent ≡ last-end (step x)
 unfolding last-end
-goes-on {s} i h = rw (i .whole, step-plug (i .frames) s h) refl
+goes-on {y} i h = rw (step-around (i .around y) h) refl
 
 with-redex : (x : Term) (r : Redex)
     → locate x ≡ r

@@ -1,7 +1,7 @@
 -- `run` meets its contract. Each return is the outcome of the calculus: the refusals by the test that led there, and an ended
 -- run since what is read is a readable term, the smaller of budget and the caller's allowance is the grant, and the course is the
 -- calculus' course.
-use Prim.Native.Nat.{_≤_}
+use Prim.Native.Nat.{_*_, _≤_}
 use mathlib.Core.Logic.{⊎-elim}
 use mathlib.Core.Path.{_≡_, sym, _∙_, ap, subst}
 use native.Mathlib.Omega.{arith}
@@ -11,7 +11,7 @@ use borrow.Author.Needs.{needs}
 use Rattle.calculus.specs.Term.{Term}
 use Rattle.calculus.specs.Words.{Readable, words, longest}
 use Rattle.calculus.specs.Run.{run-from}
-use Rattle.calculus.specs.Outcomes.{run-room, grant}
+use Rattle.calculus.specs.Outcomes.{grant}
 use Rattle.calculus.specs.Runs.{caller-refused, work-refused, state-refused, unread}
 use Rattle.calculus.proofs.ReadBack.{refused-misread}
 use Rattle.term.specs.Subterms.{reading-of}
@@ -40,14 +40,19 @@ granted c =
 
 -- The course.
 performed : (c : tie.After-perform)
-    → let a = c .before .before .before .before .before .before .before .before .before .before .before .before .before .args in
-    Performs (run-from (grant (a .budget) (a .caller) (a .desk .allowances)) (term-read (c .before .before .before .before) .0)) (now (a .work))
-    (c .perform .result) (c .perform .last .1 .1 .0)
+    → let told = c .before .before .before .before .before in
+    let a = told .before .before .before .before .before .before .before .before .before .args in
+    Performs (run-from (grant (a .budget) (a .caller) (a .desk .allowances)) (term-read told .0)) (now (a .work)) (now (a .state))
+    (c .perform .result) (c .perform .last .1 .1 .0) (c .perform .last .1 .1 .1 .0)
 performed c =
-    let a = c .before .before .before .before .before .before .before .before .before .before .before .before .before .args in
-    let (t, e, r) = term-read (c .before .before .before .before) in
-    subst (λ g. Performs (run-from g t) (now (a .work)) (c .perform .result) (c .perform .last .1 .1 .0))
-    (granted (c .before .before)) (c .perform .ensures t e r)
+    let told = c .before .before .before .before .before in
+    let a = told .before .before .before .before .before .before .before .before .before .args in
+    let (t, e, r) = term-read told in
+    subst
+    (λ g.
+    Performs (run-from g t) (now (a .work)) (now (a .state)) (c .perform .result) (c .perform .last .1 .1 .0)
+    (c .perform .last .1 .1 .1 .0))
+    (granted (c .before .before .before)) (c .perform .ensures t e r)
 
 returns : tie.Need-returns
 returns c =
@@ -82,34 +87,30 @@ returns-4 c =
 perform-requires : tie.Need-perform-requires
 perform-requires c κs =
     let else = c .before .before .before .before .before .before .before in
-    let l : longest ≤ length (now (else .before .before .before .before .before .args .work)) = omega (arith, else .if2 .left) in
-    (l, term-read (c .before .before .before))
+    let a = else .before .before .before .before .before .before .args in
+    let l : 2 * longest ≤ length (now (a .work)) = omega (arith, else .before .if2 .left) in
+    (l, else .if3 .left, term-read (c .before .before .before .before))
 
 settle-requires : tie.Need-settle-requires
 settle-requires c κs =
-    let perform = c .before .before .before .before in
-    let else = perform .before .before .before .before .before .before .before in
-    let a = perform .before .before .before .before .before .before .before .before .before .before .before .before .before .args in
-    let (t, e, r) = term-read (perform .before .before .before .before) in
-    let long : run-room ≤ length (perform .perform .last .1 .1 .0) =
-    omega (arith, else .before .if2 .left, perform .perform .kept .1 .1 .0)
-    in
-    let within = steps-within (perform .before .before .if4 .grant) r (perform .perform .ensures t e r) in (
-      (long, else .if3 .left, (run-from (grant (a .budget) (a .caller) (a .desk .allowances)) t .state, performed perform .holds)),
-      (else .before .before .if1 .left, omega (arith, within, granted (perform .before .before))),
+    let perform = c .before .before .before .before .before in
+    let else = perform .before .before .before .before .before .before .before .before in
+    let (t, e, r) = term-read (perform .before .before .before .before .before) in
+    let within = steps-within (perform .before .before .before .if4 .grant) r (perform .perform .ensures t e r) in (
+      omega (arith, else .before .if2 .left, perform .perform .kept .1 .1 .0),
+      (else .before .before .if1 .left, omega (arith, within, granted (perform .before .before .before))),
     )
 
 returns-5 : tie.Need-returns-5
 returns-5 c =
-    let settle = c .before .before .before .before in
-    let perform = settle .before .before .before .before .before in
-    let else = perform .before .before .before .before .before .before .before in
-    let a = perform .before .before .before .before .before .before .before .before .before .before .before .before .before .args in
-    let (t, e, r) = term-read (perform .before .before .before .before) in
-    let p = performed perform in
-    meets-course (now (a .term)) (a .budget) (a .caller) (a .desk .allowances) (now (a .work)) (now (a .state)) e r p
-    (else .before .before .if1 .left) (else .before .if2 .left) (else .if3 .left)
-    (settle .settle .ensures (run-from (grant (a .budget) (a .caller) (a .desk .allowances)) t .state) (p .holds))
+    let settle = c .before .before in
+    let perform = settle .before .before .before .before .before .before in
+    let else = perform .before .before .before .before .before .before .before .before in
+    let a = else .before .before .before .before .before .before .args in
+    let (t, e, r) = term-read (perform .before .before .before .before .before) in
+    meets-course (now (a .term)) (a .budget) (a .caller) (a .desk .allowances) (now (a .work)) (now (a .state)) e r
+    (performed perform) (else .before .before .if1 .left) (else .before .if2 .left) (else .if3 .left)
+    (settle .settle .ensures (perform .perform .last .1 .1 .1 .0))
 
 pub run-spec : {M : Type 1} → statement M
 run-spec =

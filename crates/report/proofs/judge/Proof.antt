@@ -11,8 +11,8 @@ use Rattle.report.proofs.Judging.{refused-tells, accepted-tells}
 use Rattle.report.proofs.judge.Statement.{statement}
 use Rattle.report.proofs.judge.Tie as tie
 
-room : check-room limit ≤ length (replicate {A = ℕ} 16384 0)
-room = omega (arith, length-replicate {A = ℕ} 16384 0)
+room : check-room limit ≤ length (replicate {A = ℕ} 32768 0)
+room = omega (arith, length-replicate {A = ℕ} 32768 0)
 
 returns : tie.Need-returns
 returns c =
@@ -21,7 +21,7 @@ returns c =
     let term = now (start .args .term) in
     let output = now (start .args .output) in
     rw (c .refused .ensures)
-    (refused-tells term (replicate 16384 0) output room (start .pre .0) (check .feguavy-check .result)
+    (refused-tells term (replicate 32768 0) output room (start .pre .0) (check .feguavy-check .result)
     (now (start .args .state)) (check .feguavy-check .ensures) (c .before .if1 .taken))
 
 returns-2 : tie.Need-returns-2
@@ -33,7 +33,7 @@ returns-2 c =
     let term = now (start .args .term) in
     let output = now (start .args .output) in
     let state = now (start .args .state) in
-    accepted-tells term (replicate 16384 0) output room (start .pre .0) (check .feguavy-check .result) (run .feguavy-run .result)
+    accepted-tells term (replicate 32768 0) output room (start .pre .0) (check .feguavy-check .result) (run .feguavy-run .result)
     (c .span .result) state
     (start .pre .1) (check .feguavy-check .ensures) (else .if1 .left)
     (rw (run .before .alone .ensures) at (run .feguavy-run .ensures .0)) (c .span .ensures .0)

@@ -7,7 +7,7 @@ use Rattle.session.proofs.serve.Statement.{statement}
 use Rattle.session.proofs.serve.Tie as tie
 
 work-whole : tie.Need-slice-aggregate-serve-on-3
-work-whole c = sym (length-replicate {A = ℕ} 524288 0)
+work-whole c = sym (length-replicate {A = ℕ} 1048576 0)
 
 pub serve-spec : {M : Type 1} → statement M
 serve-spec =

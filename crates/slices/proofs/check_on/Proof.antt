@@ -7,7 +7,7 @@ use Rattle.slices.proofs.check_on.Statement.{statement}
 use Rattle.slices.proofs.check_on.Tie as tie
 
 work-whole : tie.Need-slice-aggregate-check-parts
-work-whole c = sym (length-replicate {A = ℕ} 524291 0)
+work-whole c = sym (length-replicate {A = ℕ} 1048579 0)
 
 pub check-on-spec : {M : Type 1} → statement M
 check-on-spec = tie.close (tie.spec work-whole (λ c. search needs) (λ c κs. search needs) (λ c. search needs))

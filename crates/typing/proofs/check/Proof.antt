@@ -12,7 +12,7 @@ use Rattle.calculus.specs.Outcomes.{check-room}
 use Rattle.calculus.specs.Checks.{limit-refused, work-refused, output-refused}
 use Rattle.term.specs.Subterms.{reading-of}
 use Rattle.term.proofs.Walking.{reads-term}
-use Rattle.typing.proofs.Checking.{Admitted, Asked, refused-out, unread-out, whole, roomy, untyped-out, type-within, typed-out}
+use Rattle.typing.proofs.Checking.{Admitted, Asked, refused-out, unread-out, whole, roomy, untyped-out, type-within, type-kept, type-fits, typed-out}
 use Rattle.typing.proofs.check.Statement.{statement}
 use Rattle.typing.proofs.check.Tie as tie
 
@@ -59,18 +59,20 @@ slice-aggregate-infer c =
 
 infer-requires : tie.Need-infer-requires
 infer-requires c κs =
-    let A = admitted (c .before .before .before .before .before) in
-    let g = term-read (c .before .before) in
-    ([], g .0, whole A (g .1) (g .2) _ refl, roomy A (g .1) (g .2))
+    let A = admitted (c .before .before .before .before .before .before) in
+    let g = term-read (c .before .before .before) in
+    (refl, ([], g .0, whole A (g .1) (g .2) _ refl, roomy A (g .1) (g .2)))
 
 -- Past inference.
 asked : (c : tie.After-infer)
-    → let a = c .before .before .before .before .before .before .before .before .before .before .before .before .before .args in
+    → let else = c .before .before .before .before .before .before .before in
+    let a = else .before .before .before .before .before .before .before .args in
     Asked (a .term .now) (a .limit) (a .work .now) (a .output .now) (c .infer .result) (c .infer .last .1 .1 .1 .1 .0)
 asked c =
-    let A = admitted (c .before .before .before .before .before .before) in
-    let g = term-read (c .before .before .before) in
-    let ws = c .before .before .before .before .before .before .before .before .before .before .before .before .before .args .term .now in
+    let else = c .before .before .before .before .before .before .before in
+    let A = admitted else in
+    let g = term-read (c .before .before .before .before) in
+    let ws = else .before .before .before .before .before .before .before .args .term .now in
     record {
       admitted = A;
       term = g .0;
@@ -81,22 +83,38 @@ asked c =
       places = _;
       places′ = _;
       infers = c .infer .ensures [] (g .0) (whole A (g .1) (g .2) _ refl);
-      kept = c .infer .kept .1 .1 .1 .1 .0;
+      same = c .infer .kept .1 .1 .1 .1 .0;
     }
 
-slice-reshare-prefix-copy : tie.Need-slice-reshare-prefix-copy
-slice-reshare-prefix-copy c = type-within (asked (c .before .before .before .before .before)) (c .before .length .given .1)
+slice-reshare-prefix-spell : tie.Need-slice-reshare-prefix-spell
+slice-reshare-prefix-spell c =
+    let f = c .before in
+    type-within (asked (f .before .before .before .before .before)) (f .length .given .1)
+
+mul-spell : tie.Need-mul-spell
+mul-spell c =
+    let within =
+    type-within (asked (c .before .before .before .before .before .before)) (c .before .length .given .1) in
+    search needs
+
+spell-requires : tie.Need-spell-requires
+spell-requires c κs =
+    let f = c .before .before .before in
+    let a = asked (f .before .before .before .before .before) in
+    let q = f .length .given .1 in
+    (_, type-kept a q, type-fits a q)
 
 returns-6 : tie.Need-returns-6
 returns-6 c =
     let f = c .before .before .before .before .before in
-    untyped-out (asked (f .before .before .before .before)) (f .refusal2 .given .1) (c .before .before .clear .ensures)
+    untyped-out (asked (f .before .before .before .before .before)) (f .refusal2 .given .1) (c .before .before .clear .ensures)
 
 returns-7 : tie.Need-returns-7
 returns-7 c =
-    let k = c .before .before .before .before .before .before in
-    let f = k .before .before .before .before in
-    typed-out (asked (f .before .before .before .before)) (f .length .given .1) (k .copy .ensures) (c .before .before .clear2 .ensures)
+    let spell = c .before .before .before .before .before .before in
+    let f = spell .before .before .before .before in
+    typed-out (asked (f .before .before .before .before .before)) (f .length .given .1) (spell .spell .ensures)
+    (c .before .before .clear2 .ensures)
 
 pub check-spec : {M : Type 1} → statement M
 check-spec =
@@ -104,6 +122,7 @@ check-spec =
     (tie.spec
     (λ c κs. search needs) returns (λ c κs. search needs) returns-2 (λ c. search needs) (λ c κs. search needs) returns-3
     (λ c κs. search needs) returns-4 (λ c κs. search needs) (λ c. search needs) returns-5 (λ c. search needs) (λ c. search needs)
-    (λ c. search needs) slice-aggregate-infer infer-requires (λ c. search needs) (λ c κs. search needs) (λ c. search needs)
-    slice-reshare-prefix-copy (λ c. sym (length-take-le _ _ (slice-reshare-prefix-copy (c .before)))) (λ c κs. search needs)
+    (λ c. search needs) slice-aggregate-infer (λ c. search needs) infer-requires (λ c. search needs) (λ c. search needs)
+    (λ c κs. search needs) (λ c. search needs) mul-spell slice-reshare-prefix-spell
+    (λ c. sym (length-take-le _ _ (slice-reshare-prefix-spell (c .before)))) spell-requires (λ c. search needs)
     (λ c κs. search needs) (λ c. search needs) returns-6 (λ c. search needs) (λ c. search needs) returns-7)

@@ -3,6 +3,7 @@
 use Prim.Native.Nat.{ℕ, suc, _+_, _-_, _≤_, _<_}
 use mathlib.Core.List.{_∷_}
 use mathlib.Core.Path.{_≡_, refl, ap, _∙_}
+use native.Mathlib.Nat.{le-refl}
 use native.Mathlib.Omega.{arith}
 use borrow.Author.Needs.{needs}
 use lib.ListN.{length}
@@ -41,80 +42,109 @@ module _ (L : ℕ) (Γ : Context) (p : ℕ) (a b : Term) where
   unfolding infer _>>=_ _>>_ require size
   by-both f g h = rw (f, equal star, g, equal star) (fitting p star h)
 
--- The start, from where the domain is typed.
+-- Where `star_part` had answered for the domain, and the start, from where it is typed.
+abbrev star-place : (t : ℕ)
+    → product-lts.After-known-told (product-claims t) (product-at t) product.Post
+    → product-lts.After-star-part (product-claims t) (product-at t) product.Post
+star-place t c = c .before .before .before .before .before .before .before
+
 abbrev start-place : (t : ℕ)
     → product-lts.After-known-told (product-claims t) (product-at t) product.Post
     → product-lts.Start (product-claims t) (product-at t) product.Post
-start-place t c = c .before .before .before .before .before .before .before .before .before .before .before .before
+start-place t c = star-place t c .before .before .before .before .before .before .before .before .before
 
 -- The domain is typed.
-typed-domain : (t : ℕ) (c : product-lts.After-known-told (product-claims t) (product-at t) product.Post) (Γ : Context) (a b : Term)
+typed-domain : (t : ℕ) (c : product-lts.After-known-told (product-claims t) (product-at t) product.Post) (Γ : Context)
+    (a b : Term)
     → let start = start-place t c in
     let domain = c .before .domain .given .0 in
-    let star-part = c .before .before .before .before .before .star-part in
+    let star-part = c .before .before .before .before .before .before .before .star-part in
     Subject Γ (pi a b) (start .args .term .now) (start .args .sub .now) (start .args .context .now) (start .args .depth)
     → Part (star-typed (start .args .limit) Γ (length (start .args .term .now) - length (behind 1 (start .args .sub .now))) a) a
     (start .args .context .now) (start .args .depth) (start .args .work .now) (start .args .top) (domain .0) (domain .1 .0)
     (star-part .last .1 .1 .1 .1 .0) (star-part .last .1 .1 .0)
 typed-domain t c Γ a b S =
-    typed (c .before .before .before .before .before .star-part .ensures Γ a (first S of-pi)) (c .before .domain .given .1)
+    typed (c .before .before .before .before .before .before .before .star-part .ensures Γ a (first S of-pi))
+    (c .before .domain .given .1)
 
 -- The words reach beyond it.
 reach : (t : ℕ) (c : product-lts.After-known-told (product-claims t) (product-at t) product.Post)
     → let start = start-place t c in
     (1 + c .before .domain .given .0 .0 < length (start .args .sub .now)) × (length (start .args .sub .now) ≤ longest)
 reach t c =
-    let P = start-place t c .pre .1 in
+    let P = start-place t c .pre .1 .1 in
     reaches (P .3) _ (typed-domain t c (P .0) (P .1) (P .2) (P .3)) (of-pi {b = P .2})
+
+-- The slice and `held` are as long as they were.
+long : (t : ℕ) (c : product-lts.After-star-part2 (product-claims t) (product-at t) product.Post)
+    → length (c .star-part2 .last .1 .1 .1 .1 .0) ≡ length
+    (start-place t (c .before .before .before .before .before .before) .args .work .now)
+long t c = c .star-part2 .kept .1 .1 .1 .1 .0 ∙ star-place t
+    (c .before .before .before .before .before .before) .star-part .kept .1 .1 .1 .1 .0
+
+held-long : (t : ℕ) (c : product-lts.After-star-part2 (product-claims t) (product-at t) product.Post)
+    → length (c .star-part2 .last .1 .1 .1 .1 .1 .1 .1 .0)
+    ≡ length (start-place t (c .before .before .before .before .before .before) .args .held .now)
+held-long t c =
+    c .star-part2 .kept .1 .1 .1 .1 .1 .1 .1 .0 ∙ star-place t
+    (c .before .before .before .before .before .before) .star-part .kept .1 .1 .1 .1 .1 .1 .1 .0
 
 star-part-requires : (t : ℕ) → product-lts.Need-star-part-requires (product-claims t) (product-at t) product.Post
 star-part-requires t c κs =
-    let start = c .before .before .before .before .before .before in
-    let P = start .pre .1 in
+    let start = c .before .before .before .before .before .before .before .before in
+    let P = start .pre .1 .1 in
     part-asked 0 2 (omega arith) (start .pre .0) (P .3) (P .4) (first (P .3) of-pi) (two-levels of-pi .0) refl (omega arith)
+    (start .pre .1 .0)
 
 returns : (t : ℕ) → product-lts.Need-returns (product-claims t) (product-at t) product.Post
 returns t c Γ a b S =
-    passed _ (c .before .before .before .before .star-part .ensures Γ a (first S of-pi)) (c .enum-told .given .1) (by-domain _ Γ _ a b (place-first S))
+    passed _ (c .before .before .before .before .before .before .star-part .ensures Γ a (first S of-pi)) (c .enum-told .given .1)
+    (by-domain _ Γ _ a b (place-first S))
 
 star-part-requires-2 : (t : ℕ) → product-lts.Need-star-part-requires-2 (product-claims t) (product-at t) product.Post
 star-part-requires-2 t c κs =
-    let after-narrow = c .before .before .before in
+    let after-narrow = c .before .before .before .before in
     let after-known-told = after-narrow .before in
     let start = start-place t after-known-told in
-    let P = start .pre .1 in
+    let star-part = after-known-told .before .before .before .before .before .before .before .star-part in
+    let P = start .pre .1 .1 in
     let A = typed-domain t after-known-told (P .0) (P .1) (P .2) (P .3) in
     let E = below (P .3) _ A (after-narrow .narrow .result) of-pi (after-narrow .narrow .ensures) in
-    part-asked (after-known-told .before .domain .given .0 .0) 2 (omega arith) (start .pre .0) (P .3) (P .4) E (two-levels of-pi .1)
-    (after-known-told .before .before .before .before .before .star-part .kept .1 .1 .1 .1 .0) (omega arith)
+    part-asked (after-known-told .before .domain .given .0 .0) 2 (omega arith) (start .pre .0) (P .3) (P .4) E
+    (two-levels of-pi .1)
+    (star-part .kept .1 .1 .1 .1 .0) (omega arith) (star-part .kept .1 .1 .1 .1 .1 .1 .1 .0 ∙ start .pre .1 .0)
 
 returns-2 : (t : ℕ) → product-lts.Need-returns-2 (product-claims t) (product-at t) product.Post
 returns-2 t c Γ a b S =
-    let after-star-part2 = c .before .before .before .before in
-    let after-narrow = after-star-part2 .before .before .before .before in
+    let after-star-part2 = c .before .before .before .before .before .before in
+    let after-narrow = after-star-part2 .before .before .before .before .before in
     let A = typed-domain t (after-narrow .before) Γ a b S in
     passed _
-    (after-star-part2 .star-part2 .ensures (a ∷ Γ) b (below S _ A (after-narrow .narrow .result) of-pi (after-narrow .narrow .ensures)))
+    (after-star-part2 .star-part2 .ensures (a ∷ Γ) b
+    (below S _ A (after-narrow .narrow .result) of-pi (after-narrow .narrow .ensures)))
     (c .enum-told2 .given .1) (by-codomain _ Γ _ a b (annotation-found S _ A) (second-place S _ A of-pi))
 
-add-t15 : (t : ℕ) → product-lts.Need-add-t15 (product-claims t) (product-at t) product.Post
-add-t15 t c =
-    let after-narrow = c .before .before .before .before .before .before .before .before .before in
-    let P = start-place t (after-narrow .before) .pre .1 in
+add-t16 : (t : ℕ) → product-lts.Need-add-t16 (product-claims t) (product-at t) product.Post
+add-t16 t c =
+    let after-narrow = c .before .before .before .before .before .before .before .before .before .before .before .before in
+    let P = start-place t (after-narrow .before) .pre .1 .1 in
     let A = typed-domain t (after-narrow .before) (P .0) (P .1) (P .2) (P .3) in
     let E = below (P .3) _ A (after-narrow .narrow .result) of-pi (after-narrow .narrow .ensures) in
-    let B = typed (c .before .before .before .before .before .star-part2 .ensures (P .1 ∷ P .0) (P .2) E) (c .before .codomain .given .1) in
+    let B = typed (c .before .before .before .before .before .before .before .star-part2 .ensures (P .1 ∷ P .0) (P .2) E)
+    (c .before .codomain .given .1) in
     omega (arith, subject-parts (P .3) of-pi, A .read, B .read, P .3 .within, P .3 .short)
 
 returns-3 : (t : ℕ) → product-lts.Need-returns-3 (product-claims t) (product-at t) product.Post
 returns-3 t c Γ a b S =
-    let after-narrow = c .before .before .before .before .before .before .before .before .before in
+    let after-narrow = c .before .before .before .before .before .before .before .before .before .before .before .before in
     let A = typed-domain t (after-narrow .before) Γ a b S in
     let E = below S _ A (after-narrow .narrow .result) of-pi (after-narrow .narrow .ensures) in
-    let B = typed (c .before .before .before .before .before .star-part2 .ensures (a ∷ Γ) b E) (c .before .codomain .given .1) in
+    let B = typed (c .before .before .before .before .before .before .before .star-part2 .ensures (a ∷ Γ) b E)
+    (c .before .codomain .given .1) in
     let is-star = starred _ (a ∷ Γ) _ b (B .found) in
     found
-    (by-both _ Γ _ a b (annotation-found S _ A) (rw (← second-place S _ A of-pi) (is-star .0)) (start-place t (after-narrow .before) .pre .1 .4 .some))
+    (by-both _ Γ _ a b (annotation-found S _ A) (rw (← second-place S _ A of-pi) (is-star .0))
+    (start-place t (after-narrow .before) .pre .1 .1 .4 .some))
     (record {
       answer = unfold size in ap (λ n. inferred.Typed n 1) (omega (arith, A .read, B .read));
       lies = lying B (is-star .1);
@@ -126,10 +156,17 @@ returns-3 t c Γ a b S =
 pub product-part : (M : Type 1) (t : ℕ) → product-lts.Closed (product-claims t) (product-at t) product.Post M
 product-part M t =
     product-lts.spec (product-claims t) (product-at t) product.Post
-    (λ c. search needs) (λ c. subject-some (c .before .before .before .pre .1 .3))
-    (λ c. subject-some (c .before .before .before .pre .1 .3)) (λ c. search needs) (star-part-requires t) (λ c. search needs)
-    (λ c. search needs) (λ c. search needs) (returns t) (λ c. search needs) (λ c κs. place-short (start-place t c .pre .1 .3))
-    (λ c. search needs) (λ c. subject-shallow (start-place t (c .before) .pre .1 .3)) (λ c. omega (arith, reach t (c .before)))
-    (λ c. omega (arith, reach t (c .before))) (λ c. omega (arith, reach t (c .before))) (λ c. omega (arith, reach t (c .before)))
-    (λ c. search needs) (λ c. search needs) (star-part-requires-2 t) (λ c. search needs) (λ c. search needs) (λ c. search needs)
-    (returns-2 t) (add-t15 t) (λ c. search needs) (returns-3 t)
+    (λ c. c .before .before .before .before .pre .1 .1 .3 .within)
+    (λ c. subject-some (c .before .before .before .before .pre .1 .1 .3))
+    (λ c. subject-some (c .before .before .before .before .pre .1 .1 .3)) (λ c. le-refl _) (star-part-requires t)
+    (λ c. c .match .keys1) (λ c. c .match .keys2)
+    (λ c. c .before .before .before .before .before .before .star-part .kept .1 .1 .1 .1 .0)
+    (λ c. c .before .before .before .before .before .before .star-part .kept .1 .1 .1 .1 .1 .1 .1 .0) (returns t)
+    (λ c. search needs) (λ c κs. omega (arith, place-short (start-place t c .pre .1 .1 .3))) (λ c. search needs)
+    (λ c. subject-shallow (start-place t (c .before) .pre .1 .1 .3)) (λ c. omega (arith, reach t (c .before)))
+    (λ c. omega (arith, reach t (c .before))) (λ c. omega (arith, reach t (c .before)))
+    (λ c. omega (arith, reach t (c .before))) (λ c. le-refl _) (λ c. search needs) (star-part-requires-2 t)
+    (λ c. c .match2 .keys1) (λ c. c .match2 .keys2) (λ c. long t (c .before .before .before .before .before .before))
+    (λ c. held-long t (c .before .before .before .before .before .before)) (returns-2 t) (add-t16 t)
+    (λ c. long t (c .before .before .before .before .before .before .before))
+    (λ c. held-long t (c .before .before .before .before .before .before .before)) (returns-3 t)

@@ -1,103 +1,102 @@
--- `cancel` meets its contract: the walk over the annotation finds the body of the up cast, which is what the down cast steps to;
--- it and all behind it is copied at once.
-use Prim.Native.Nat.{_+_, _≤_}
-use mathlib.Core.Path.{refl, sym}
+-- `cancel` meets its contract: the kept length of the annotation tells where the body of the up cast begins, which is what the
+-- down cast steps to; both end at the same node.
+use Prim.Native.Nat.{_+_, _*_, _≤_}
+use mathlib.Core.Path.{_≡_, refl, ap, _∙_}
 use native.Mathlib.Omega.{arith}
 use borrow.Author.Needs.{needs}
-use lib.ListN.{length, take}
-use lib.Seq.{length-take-le}
+use lib.ListN.{length}
 use Rattle.calculus.specs.Term.{Term, castup, castdown, size}
-use Rattle.calculus.specs.Words.{emit}
 use Rattle.calculus.specs.Step.{cancelled, step, under}
+use Rattle.term.specs.Kept.{Lies, kept}
+use Rattle.term.proofs.Keeping.{kept-length, lies-within}
 use Rattle.reduction.specs.declared.stepping.Kind.the-variants.{Cancellation}
-use Rattle.reduction.proofs.Wrote.{Wrote, wrote-of, lacked-of, lacked-more, next-within}
-use Rattle.reduction.proofs.Arrivals.{arrives-short, arrives}
-use Rattle.reduction.proofs.Spans.{further, Spanned, walked}
-use Rattle.reduction.proofs.Placing.{Placed, placed-within, cancel-placed, reaches}
+use Rattle.kept.specs.Writing.{Puts}
+use Rattle.reduction.proofs.Placing as place
+use Rattle.reduction.proofs.Placing.{Placed, cancel-placed, lies-node, lies-part, no-room, placed-lies, puts-part, reaches}
 use Rattle.reduction.proofs.stepping.cancel.Statement.{statement}
 use Rattle.reduction.proofs.stepping.cancel.Tie as tie
 
--- The redex, and its annotation as it is found.
+-- The redex, and its parts as they are found.
 redex : (c : tie.Start) → (a : Term) × (e : Term) × Placed (c .args .state .now) (c .args .at) (castdown (castup a e))
-redex c = cancel-placed (c .pre)
+redex c = cancel-placed (c .pre .0)
 
-two-words : (c : tie.Start) → c .args .at + 2 ≤ length (c .args .state .now)
-unfolding size
-two-words c = omega (arith, placed-within (redex c .2))
+annotation : (c : tie.Start) → Lies (redex c .0) (c .args .state .now) (c .args .at + 2)
+annotation c = place.cast-annotation (placed-lies (redex c .2))
 
-annotation : (c : tie.After-span)
+first : (c : tie.After-length-at) → c .length-at .result ≡ size (redex (c .before .before .before .before) .0)
+first c = c .length-at .ensures .1 _ (annotation (c .before .before .before .before))
+
+body : (c : tie.After-length-at)
     → let s = c .before .before .before .before in
-    let r = redex s in
-    Spanned (s .args .state .now) (s .args .at + 2) (r .0) (emit (r .1) (r .2 .rest)) (s .args .at + 2 + c .span .result)
-unfolding emit
-annotation c =
-    let s = c .before .before .before .before in
-    walked (further (s .args .state .now) (s .args .at) 2 (redex s .2 .here)) (c .span .ensures .0)
+    Lies (redex s .1) (s .args .state .now) (s .args .at + 2 + c .length-at .result)
+body c = place.cast-body (placed-lies (redex (c .before .before .before .before) .2)) (first c)
 
--- What stands before the redex is written.
-front : (c : tie.After-next)
-    → let s = c .before .before .before .before .before .before .before .before .before .before .before in
-    let wrote = c .before .before .before .before .copy in
-    Wrote (take (s .args .at) (s .args .state .now)) (s .args .out .now) 0 (c .next .given .0 .0) (wrote .last .1 .0)
-front c = wrote-of (c .before .before .before .before .copy .ensures) (c .next .given .1)
-
-add-annotation : tie.Need-add-annotation
-add-annotation c = omega (arith, two-words (c .before .before))
-
-mul-span : tie.Need-mul-span
-mul-span c = omega (arith, two-words (c .before .before))
-
-sub-span : tie.Need-sub-span
-sub-span c = omega (arith, two-words (c .before .before))
-
-part-span-start : tie.Need-part-span-start
-part-span-start c = two-words (c .before .before)
-
-add-body : tie.Need-add-body
-add-body c = omega (arith, annotation c .within)
-
-slice-aggregate-copy : tie.Need-slice-aggregate-copy
-slice-aggregate-copy c =
+-- The down cast ends where the body does.
+ended : (c : tie.After-length-at2)
+    → let s = c .before .before .before .before .before in
+    s .args .at + c .length-at2 .result ≡ s .args .at + 2 + c .before .length-at .result + size (redex s .1)
+unfolding size
+ended c =
     let s = c .before .before .before .before .before in
-    sym (length-take-le (s .args .at) (s .args .state .now) (omega (arith, two-words s)))
+    omega (arith, first (c .before), c .length-at2 .ensures .1 _ (placed-lies (redex s .2)))
+
+within : (c : tie.After-length-at2)
+    → let s = c .before .before .before .before .before in
+    2 * (s .args .at + c .length-at2 .result) ≤ length (s .args .state .now)
+within c = omega (arith, ended c, lies-within (body (c .before)))
+
+mul-if1 : tie.Need-mul-if1
+mul-if1 c = omega (arith, lies-node (placed-lies (redex (c .before .before) .2)))
 
 returns : tie.Need-returns
 unfolding step under cancelled
 returns c =
-    reaches
-    {K = Cancellation}
-    (redex (c .before .before .before .before .before .before .before .before .before .before .before) .2)
-    refl
-    refl
-    (arrives-short (lacked-more _ (lacked-of (c .before .before .before .before .copy .ensures) (c .enum-told .given .1))))
+    let (a, e, p) = redex (c .before .before .before) in
+    no-room p Cancellation e refl _ (c .if1 .taken)
 
-mul-finish : tie.Need-mul-finish
-mul-finish c = omega (arith, annotation (c .before .before .before .before .before .before .before .before) .within)
+add-annotation : tie.Need-add-annotation
+add-annotation c = omega (arith, lies-node (annotation (c .before .before .before)))
 
-sub-finish : tie.Need-sub-finish
-sub-finish c = omega (arith, annotation (c .before .before .before .before .before .before .before .before) .within)
+length-at-requires : tie.Need-length-at-requires
+length-at-requires c κs = lies-node (annotation (c .before .before .before))
 
-part-finish-start : tie.Need-part-finish-start
-part-finish-start c = omega (arith, annotation (c .before .before .before .before .before .before .before .before) .within)
+length-at-requires-2 : tie.Need-length-at-requires-2
+length-at-requires-2 c κs = lies-node (placed-lies (redex (c .before .before .before .before) .2))
 
-finish-requires : tie.Need-finish-requires
-finish-requires c κs = next-within (front (c .before .before .before))
+copy-nodes-requires : tie.Need-copy-nodes-requires
+copy-nodes-requires c κs =
+    let k = c .before .before in
+    let e = redex (k .before .before .before .before .before) .1 in
+    (k .before .before .if1 .left, (size e, ap length (lies-part (body (k .before)) (ended k)) ∙ kept-length e))
+
+-- The body is written.
+written : (c : tie.After-copy-nodes)
+    → let s = c .before .before .before .before .before .before .before .before in
+    Puts (kept (redex s .1)) (s .args .out .now) (s .args .at) (c .copy-nodes .result) (c .copy-nodes .last .1 .0)
+written c =
+    let k = c .before .before .before in
+    puts-part (body (k .before)) (ended k) (c .copy-nodes .ensures)
+
+surround-requires : tie.Need-surround-requires
+surround-requires c κs =
+    let w = c .before .before .before in
+    let s = w .before .before .before .before .before .before .before .before in
+    let (a, e, p) = redex s in
+    (p .term, castdown (castup a e), e, p .put e, s .args .out .now, p .around e, p .coded, p .short, s .pre .1, written w)
 
 returns-2 : tie.Need-returns-2
 unfolding step under cancelled
 returns-2 c =
-    let w = c .before .before .before .before .before .before in
-    let s = w .before .before .before .before .before .before .before .before .before .before .before in
-    reaches
-    (redex s .2)
-    refl
-    (annotation (w .before .before .before .before .before .before .before) .next)
-    (arrives (s .args .state .now) _ (front w) (c .before .before .finish .ensures))
+    let v = c .before .before in
+    let w = v .before .before .before .before in
+    let (a, e, p) = redex (w .before .before .before .before .before .before .before .before) in
+    reaches p Cancellation e refl (v .surround .ensures _ _ e (p .put e) _ (p .around e) (p .coded) (written w))
 
 pub cancel-spec : {M : Type 1} → statement M
 cancel-spec =
     tie.close
     (tie.spec
-    add-annotation mul-span sub-span part-span-start (λ c. search needs) (λ c κs. search needs) add-body slice-aggregate-copy
-    (λ c κs. search needs) (λ c. search needs) (λ c. search needs) (λ c. search needs) returns mul-finish sub-finish
-    part-finish-start (λ c. search needs) finish-requires (λ c. search needs) returns-2)
+    mul-if1 returns add-annotation length-at-requires (λ c. omega (arith, lies-node (body c))) length-at-requires-2
+    (λ c. omega (arith, within c)) (λ c. omega (arith, ended c, within c)) (λ c. omega (arith, within c))
+    (λ c. omega (arith, ended c, within c)) (λ c. omega (arith, ended c)) (λ c. omega (arith, ended c)) within
+    copy-nodes-requires surround-requires (λ c. search needs) returns-2)

@@ -1,6 +1,6 @@
--- `find_redex` meets its contract: each return gives the redex that the word behind the leading down casts and applications, and
+-- `find_redex` meets its contract: each return gives the redex that the node behind the leading down casts and applications, and
 -- the one before it, decide.
-use Prim.Native.Nat.{_<_}
+use Prim.Native.Nat.{_+_, _*_, _<_}
 use mathlib.Core.List.{[], _∷_}
 use mathlib.Core.Path.{refl, sym, ap}
 use native.Mathlib.Omega.{arith}
@@ -11,7 +11,7 @@ use Rattle.reduction.proofs.Deciding.{heads-within, Decides, found, fou
 use Rattle.reduction.proofs.stepping.find_redex.Statement.{statement}
 use Rattle.reduction.proofs.stepping.find_redex.Tie as tie
 
-inside : (c : tie.After-leading) → c .leading .result < length (c .before .before .args .state .now)
+inside : (c : tie.After-leading) → 2 * c .leading .result + 1 < length (c .before .before .args .state .now)
 inside c = heads-within (c .before .before .pre) (c .leading .ensures)
 
 -- The word behind the leading down casts and applications.
@@ -23,8 +23,11 @@ decides c = record { counted = c .before .before .leading .ensures; known = c .c
 mul-classify : tie.Need-mul-classify
 mul-classify c = omega (arith, inside c)
 
+mul-classify-2 : tie.Need-mul-classify-2
+mul-classify-2 c = omega (arith, inside c)
+
 shared-slice-read-classify : tie.Need-shared-slice-read-classify
-shared-slice-read-classify c = inside (c .before)
+shared-slice-read-classify c = omega (arith, inside (c .before))
 
 returns : tie.Need-returns
 returns c =
@@ -44,8 +47,11 @@ returns-2 c =
     (λ _. (refl, tt))
     (λ n. absurd (n (c .if2 .taken)))
 
-mul-classify-2 : tie.Need-mul-classify-2
-mul-classify-2 c = omega (arith, inside (c .before .before .before .before .before))
+mul-classify-3 : tie.Need-mul-classify-3
+mul-classify-3 c = omega (arith, inside (c .before .before .before .before .before))
+
+mul-classify-4 : tie.Need-mul-classify-4
+mul-classify-4 c = omega (arith, inside (c .before .before .before .before .before))
 
 shared-slice-read-classify-2 : tie.Need-shared-slice-read-classify-2
 shared-slice-read-classify-2 c = omega (arith, inside (c .before .before .before .before .before .before))
@@ -73,8 +79,11 @@ returns-4 c =
     (λ _. (refl, tt))
     (λ n. absurd (n (c .if3 .taken)))
 
-mul-classify-3 : tie.Need-mul-classify-3
-mul-classify-3 c = omega (arith, inside (c .before .before .before .before .before))
+mul-classify-5 : tie.Need-mul-classify-5
+mul-classify-5 c = omega (arith, inside (c .before .before .before .before .before))
+
+mul-classify-6 : tie.Need-mul-classify-6
+mul-classify-6 c = omega (arith, inside (c .before .before .before .before .before))
 
 shared-slice-read-classify-3 : tie.Need-shared-slice-read-classify-3
 shared-slice-read-classify-3 c = omega (arith, inside (c .before .before .before .before .before .before))
@@ -147,8 +156,8 @@ pub find-redex-spec : {M : Type 1} → statement M
 find-redex-spec =
     tie.close
     (tie.spec
-    (λ c κs. search needs) mul-classify shared-slice-read-classify (λ c κs. search needs) (λ c. search needs) returns
-    (λ c. search needs) returns-2 (λ c. search needs) mul-classify-2 shared-slice-read-classify-2 (λ c κs. search needs)
-    (λ c. search needs) (λ c. search needs) returns-3 (λ c. search needs) returns-4 (λ c. search needs) mul-classify-3
-    shared-slice-read-classify-3 (λ c κs. search needs) (λ c. search needs) (λ c. search needs) returns-5 returns-6 returns-7
-    returns-8 returns-9 returns-10)
+    (λ c κs. search needs) mul-classify mul-classify-2 shared-slice-read-classify (λ c κs. search needs)
+    (λ c. search needs) returns (λ c. search needs) returns-2 (λ c. search needs) mul-classify-3 mul-classify-4
+    shared-slice-read-classify-2 (λ c κs. search needs) (λ c. search needs) (λ c. search needs) returns-3 (λ c. search needs)
+    returns-4 (λ c. search needs) mul-classify-5 mul-classify-6 shared-slice-read-classify-3 (λ c κs. search needs)
+    (λ c. search needs) (λ c. search needs) returns-5 returns-6 returns-7 returns-8 returns-9 returns-10)

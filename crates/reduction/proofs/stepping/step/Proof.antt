@@ -12,21 +12,30 @@ located : (c : tie.After-find-redex) {r : Redex}
     → c .find-redex .result ≡ r
     → Located (c .before .before .before .args .state .now) r
 located c told =
-    let p = c .before .before .before .pre in
-    (p .term, p .coded, sym (c .find-redex .ensures (p .term) (p .coded)) ∙ told)
+    let p = c .before .before .before .pre .0 in
+    (p .term, p .coded, p .short, sym (c .find-redex .ensures (p .term) (p .coded)) ∙ told)
+
+find-redex-requires : tie.Need-find-redex-requires
+find-redex-requires c κs =
+    let p = c .before .before .pre .0 in
+    (p .term, p .coded)
 
 beta-requires : tie.Need-beta-requires
 beta-requires c κs =
     let w = c .before .before .before .before in
-    (w .before .before .before .pre, located w (c .before .before .at .given .1))
+    let pre = w .before .before .before .pre in
+    (pre .0, located w (c .before .before .at .given .1), pre .1)
 
 unfold-requires : tie.Need-unfold-requires
 unfold-requires c κs =
     let w = c .before .before .before .before in
-    (w .before .before .before .pre, located w (c .before .before .at2 .given .1))
+    let pre = w .before .before .before .pre in
+    (pre .0, located w (c .before .before .at2 .given .1), pre .1)
 
 cancel-requires : tie.Need-cancel-requires
-cancel-requires c κs = located (c .before .before .before .before) (c .before .before .at3 .given .1)
+cancel-requires c κs =
+    let w = c .before .before .before .before in
+    (located w (c .before .before .at3 .given .1), w .before .before .before .pre .1)
 
 returns : tie.Need-returns
 returns c t coded = value-stays _ t (sym (c .before .before .find-redex .ensures t coded) ∙ c .enum-told .given .1)
@@ -38,6 +47,6 @@ pub step-spec : {M : Type 1} → statement M
 step-spec =
     tie.close
     (tie.spec
-    (λ c κs. search needs) (λ c. search needs) (λ c. search needs) (λ c. search needs) beta-requires (λ c. search needs)
+    find-redex-requires (λ c. search needs) (λ c. search needs) (λ c. search needs) beta-requires (λ c. search needs)
     unfold-requires (λ c. search needs) cancel-requires returns returns-2 (λ c. search needs) (λ c. search needs)
     (λ c. search needs) (λ c. search needs) (λ c. search needs) (λ c. search needs))

@@ -1,16 +1,21 @@
--- `unfold` meets its contract: the walks find the annotation and the body of the recursion, and the body with the whole recursion
--- put in is what the recursion steps to.
-use Prim.Native.Nat.{_+_, _≤_}
-use mathlib.Core.Path.{refl}
+-- `unfold` meets its contract: the kept lengths tell where the annotation and the recursion end, and the body with the whole
+-- recursion put in is what the recursion steps to.
+use Prim.Native.Nat.{_+_, _*_, _≤_}
+use mathlib.Core.Path.{_≡_, refl, ap}
 use native.Mathlib.Omega.{arith}
 use borrow.Author.Needs.{needs}
 use lib.ListN.{length}
-use Rattle.calculus.specs.Term.{Term, mu, size}
-use Rattle.calculus.specs.Words.{emit, Scoped}
+use Rattle.calculus.specs.Term.{Term, mu, size, substitute}
+use Rattle.calculus.specs.Words.{Scoped}
 use Rattle.calculus.specs.Step.{step}
-use Rattle.reduction.proofs.Spans.{further, last, Spanned, spanned, ended, walked}
-use Rattle.reduction.proofs.Placing.{Placed, placed-within, unfold-placed}
-use Rattle.reduction.proofs.Replacing.{replaceable, replaces}
+use Rattle.term.specs.Kept.{Lies, kept}
+use Rattle.term.proofs.Nodes.{two-mu}
+use Rattle.term.proofs.Keeping.{lies-first, lies-within}
+use Rattle.reduction.specs.declared.stepping.Kind.the-variants.{Unfolding}
+use Rattle.kept.specs.Writing.{Puts}
+use Rattle.reduction.proofs.Placing as place
+use Rattle.reduction.proofs.Placing.{Placed, unfold-placed, lies-node, lies-part, no-room, placed-lies, reaches}
+use Rattle.reduction.proofs.Replacing.{argument-fits, body-fits}
 use Rattle.reduction.proofs.stepping.unfold.Statement.{statement}
 use Rattle.reduction.proofs.stepping.unfold.Tie as tie
 
@@ -18,75 +23,93 @@ use Rattle.reduction.proofs.stepping.unfold.Tie as tie
 redex : (c : tie.Start) → (a : Term) × (e : Term) × Placed (c .args .state .now) (c .args .at) (mu a e)
 redex c = unfold-placed (c .pre .1)
 
-one-word : (c : tie.Start) → c .args .at + 1 ≤ length (c .args .state .now)
-unfolding size
-one-word c = omega (arith, placed-within (redex c .2))
+annotation : (c : tie.Start) → Lies (redex c .0) (c .args .state .now) (c .args .at + 1)
+annotation c = lies-first two-mu (placed-lies (redex c .2))
 
-annotation : (c : tie.After-span)
+first : (c : tie.After-length-at) → c .length-at .result ≡ size (redex (c .before .before .before .before) .0)
+first c = c .length-at .ensures .1 _ (annotation (c .before .before .before .before))
+
+body : (c : tie.After-length-at)
     → let s = c .before .before .before .before in
-    let r = redex s in
-    Spanned (s .args .state .now) (s .args .at + 1) (r .0) (emit (r .1) (r .2 .rest)) (s .args .at + 1 + c .span .result)
-unfolding emit
-annotation c =
-    let s = c .before .before .before .before in
-    walked (further (s .args .state .now) (s .args .at) 1 (redex s .2 .here)) (c .span .ensures .0)
+    Lies (redex s .1) (s .args .state .now) (s .args .at + 1 + c .length-at .result)
+body c = place.recursion-body (placed-lies (redex (c .before .before .before .before) .2)) (first c)
 
-body : (c : tie.After-behind)
+recursion : (c : tie.Start) → Lies (mu (redex c .0) (redex c .1)) (c .args .state .now) (c .args .at)
+recursion c = placed-lies (redex c .2)
+
+ended : (c : tie.After-length-at2)
     → let s = c .before .before .before .before .before in
-    let r = redex s in
-    Spanned (s .args .state .now) (s .args .at + 1 + c .before .span .result) (r .1) (r .2 .rest) (c .behind .result)
-body c = ended (annotation (c .before) .next) (c .behind .ensures .0)
+    s .args .at + c .length-at2 .result ≡ s .args .at + size (mu (redex s .0) (redex s .1))
+ended c =
+    let s = c .before .before .before .before .before in
+    ap (λ n. s .args .at + n) (c .length-at2 .ensures .1 _ (recursion s))
 
-recursion : (c : tie.After-behind)
+within : (c : tie.After-length-at2)
     → let s = c .before .before .before .before .before in
-    let r = redex s in
-    Spanned (s .args .state .now) (s .args .at) (mu (r .0) (r .1)) (r .2 .rest) (c .behind .result)
-unfolding size
-recursion c =
-    let r = redex (c .before .before .before .before .before) in
-    spanned (r .2 .here) (omega (arith, body c .count, annotation (c .before) .count))
+    2 * (s .args .at + c .length-at2 .result) ≤ length (s .args .state .now)
+within c = omega (arith, ended c, lies-within (recursion (c .before .before .before .before .before)))
 
-add-annotation : tie.Need-add-annotation
-add-annotation c = omega (arith, one-word (c .before .before))
-
-mul-span : tie.Need-mul-span
-mul-span c = omega (arith, one-word (c .before .before))
-
-sub-span : tie.Need-sub-span
-sub-span c = omega (arith, one-word (c .before .before))
-
-part-span-start : tie.Need-part-span-start
-part-span-start c = one-word (c .before .before)
-
-add-body : tie.Need-add-body
-add-body c = omega (arith, annotation c .within)
-
-behind-requires : tie.Need-behind-requires
-behind-requires c κs =
-    let r = redex (c .before .before .before .before) in
-    (annotation c .within, λ zero. last _ _ (r .1) (annotation c .next) (r .2 .alone zero))
-
-replace-requires : tie.Need-replace-requires
-unfolding Scoped
-replace-requires c κs =
-    let s = c .before .before .before .before .before .before .before .before in
-    let parts = c .before .before .before in
-    replaceable (redex s .2) (body parts) (recursion parts) (s .pre .0) (λ n h. h .1) (λ n h. h)
+mul-if1 : tie.Need-mul-if1
+mul-if1 c = omega (arith, lies-node (recursion (c .before .before)))
 
 returns : tie.Need-returns
 unfolding step
 returns c =
-    replaces
-    (redex (c .before .before .before .before .before .before .before .before .before .before .before) .2)
-    (body (c .before .before .before .before .before .before))
-    (recursion (c .before .before .before .before .before .before))
-    refl
-    (c .before .before .replace .ensures)
+    let (a, e, p) = redex (c .before .before .before) in
+    no-room p Unfolding (substitute 0 (mu a e) e) refl _ (c .if1 .taken)
+
+add-annotation : tie.Need-add-annotation
+add-annotation c = omega (arith, lies-node (annotation (c .before .before .before)))
+
+length-at-requires : tie.Need-length-at-requires
+length-at-requires c κs = lies-node (annotation (c .before .before .before))
+
+length-at-requires-2 : tie.Need-length-at-requires-2
+length-at-requires-2 c κs = lies-node (recursion (c .before .before .before .before))
+
+substitute-requires : tie.Need-substitute-requires
+unfolding Scoped
+substitute-requires c κs =
+    let k = c .before .before in
+    let s = k .before .before .before .before .before in
+    let p = redex s .2 in (
+      k .before .before .if1 .left,
+      omega (arith, s .pre .2),
+      body-fits p (s .pre .0) (body (k .before)) (λ n h. h .1),
+      argument-fits p (s .pre .0) (recursion s) (ended k) (λ n h. h),
+    )
+
+-- What the recursion steps to is written.
+written : (c : tie.After-substitute)
+    → let s = c .before .before .before .before .before .before .before .before in
+    let x = substitute 0 (mu (redex s .0) (redex s .1)) (redex s .1) in
+    Puts (kept x) (s .args .out .now) (s .args .at) (c .substitute .result) (c .substitute .last .1 .1 .1 .1 .0)
+written c =
+    let k = c .before .before .before in
+    let s = k .before .before .before .before .before in
+    c .substitute .ensures _ _ (body (k .before)) (lies-part (recursion s) (ended k))
+
+surround-requires : tie.Need-surround-requires
+surround-requires c κs =
+    let w = c .before .before .before in
+    let s = w .before .before .before .before .before .before .before .before in
+    let (a, e, p) = redex s in
+    let x = substitute 0 (mu a e) e in
+    (p .term, mu a e, x, p .put x, s .args .out .now, p .around x, p .coded, p .short, s .pre .2, written w)
+
+returns-2 : tie.Need-returns-2
+unfolding step
+returns-2 c =
+    let v = c .before .before in
+    let w = v .before .before .before .before in
+    let (a, e, p) = redex (w .before .before .before .before .before .before .before .before) in
+    let x = substitute 0 (mu a e) e in
+    reaches p Unfolding x refl (v .surround .ensures _ _ x (p .put x) _ (p .around x) (p .coded) (written w))
 
 pub unfold-spec : {M : Type 1} → statement M
 unfold-spec =
     tie.close
     (tie.spec
-    add-annotation mul-span sub-span part-span-start (λ c. search needs) (λ c κs. search needs) add-body behind-requires
-    (λ c. search needs) (λ c. search needs) (λ c. search needs) (λ c. search needs) (λ c. search needs) (λ c. search needs)
-    (λ c. search needs) (λ c. search needs) replace-requires (λ c. search needs) returns)
+    mul-if1 returns add-annotation length-at-requires (λ c. omega (arith, lies-node (body c))) length-at-requires-2
+    (λ c. omega (arith, within c)) (λ c. omega (arith, within c)) (λ c. omega (arith, within c)) (λ c. omega (arith, within c))
+    (λ c. search needs) (λ c. search needs) within substitute-requires surround-requires (λ c. search needs) returns-2)

@@ -1,22 +1,20 @@
 -- `read_first` meets its contract. The invariant: skimming from the start answers what skimming from `at` answers, with the
--- subterm at hand before those that the arrays hold. The measure is what is left of the words. Which turn it is goes by the number
--- of parts in the shape of the word at hand.
+-- subterm at hand before those that the arrays hold. The measure is what is left of the words. Wherever a word passes a second part
+-- would fit, so there is room for what is stored, whatever the word is.
 use Prim.Native.Nat.{ℕ, _+_, _-_, _<_}
-use mathlib.Core.List.{List, [], _∷_}
-use mathlib.Core.Logic.{⊎-elim}
 use mathlib.Core.Path.{_≡_, refl, sym, ap, _∙_}
 use native.Mathlib.Nat.{pos-of-ne-zero}
 use native.Mathlib.Omega.{arith}
 use borrow.Author.Needs.{needs}
 use lib.ListN.{length, getD}
 use Rattle.calculus.specs.Answer.{ok}
+use Rattle.calculus.specs.Meaning.{meaning, binds}
+use Rattle.calculus.specs.Scan.{test}
 use Rattle.term.specs.declared.reading.Visit.{Visit}
-use Rattle.term.specs.declared.word.Shape.{Shape}
-use Rattle.term.specs.Word.{shape-of}
-use Rattle.term.specs.Subterms.{pending, visited, visit-of}
-use Rattle.term.proofs.Turns.{Fits, Stands, begins, short, turn-refused, turn-last, turn-leaf, turn-one, second-fits, turn-two}
-use Rattle.term.proofs.Visits.{has-level}
-use Rattle.term.proofs.Words.{shape-none, shape-one, shape-two}
+use Rattle.term.specs.Subterms.{pending, visit-of}
+use Rattle.term.specs.Word.{second}
+use Rattle.term.proofs.Turns.{Fits, Stands, begins, fits, short, turn-refused, level, second-fits, turn-last, turn-next}
+use Rattle.term.proofs.Words.{two-at-most}
 use Rattle.term.proofs.reading.read_first.Statement.{statement}
 use Rattle.term.proofs.reading.read_first.Tie as tie
 
@@ -27,123 +25,129 @@ Inv-loop words rooms₀ scopes₀ waiting₀ at₀ room₀ binders₀ rooms scop
 abbrev μ-loop : tie.MeasureT-loop
 μ-loop words rooms₀ scopes₀ waiting₀ at₀ room₀ binders₀ rooms scopes waiting at room binders = length words - at
 
--- What `tested` says of the word at hand, where its answer is `v`.
+-- The word at hand.
+abbrev word : tie.In-loop Inv-loop μ-loop → ℕ
+word i = getD (i .before .before .before .args .words .now) (i .before .loop .at) 0
+
+-- What `tested` says of it, where its answer is `v`.
 seen : (c : tie.After-tested Inv-loop μ-loop) {v : Visit}
     → c .tested .result ≡ v
-    → let l = c .before .before .before in
-    visit-of v (l .loop .at)
-    ≡ visited
-    (getD (l .before .before .args .words .now) (l .loop .at) 0)
-    (pending (l .loop .room) (l .loop .binders))
-    (l .loop .at)
+    → let i = c .before .before in
+    let l = i .before .loop in
+    visit-of v (l .at) ≡ test (meaning (word i)) (pending (l .room) (l .binders)) (l .at)
 seen c e =
     let at = c .before .before .before .loop .at in
     ap (λ v. visit-of v at) (sym e) ∙ c .tested .ensures at
 
--- The shape of the word at hand, where it passes, and its parts.
-abbrev shape : tie.After-known-told2 Inv-loop μ-loop → Shape
-shape c = c .before .shape .given .0 .0
+-- A word that passes.
+abbrev here : tie.After-enum-told Inv-loop μ-loop → tie.In-loop Inv-loop μ-loop
+here c = c .before .before .before .before
 
-parts : (c : tie.After-known-told2 Inv-loop μ-loop) {ks : List ℕ}
-    → shape-of (shape c) ≡ ks
-    → let l = c .before .before .before .before .before .before in
-    ok ks
-    ≡ visited
-    (getD (l .before .before .args .words .now) (l .loop .at) 0)
-    (pending (l .loop .room) (l .loop .binders))
-    (l .loop .at)
-parts c e = ap ok (sym e) ∙ seen (c .before .before .before) (c .before .shape .given .1)
+passes : (c : tie.After-enum-told Inv-loop μ-loop)
+    → let l = here c .before .loop in
+    ok tt ≡ test (meaning (word (here c))) (pending (l .room) (l .binders)) (l .at)
+passes c = seen (c .before .before) (c .enum-told .given .1)
 
-leaf : (c : tie.At-match2-keys1 Inv-loop μ-loop) → shape-of (shape (c .before)) ≡ []
-leaf c = shape-none (shape (c .before)) (c .match2 .keys1)
-
-one : (c : tie.At-match2-keys2 Inv-loop μ-loop) → shape-of (shape (c .before)) ≡ 0 ∷ []
-one c = shape-one (shape (c .before)) (c .match2 .keys2)
-
-more-than-one : {n : ℕ} → (n ≡ 0 → ⊥) → (n ≡ 1 → ⊥) → 1 < n
-more-than-one none one = omega arith
-
-two : (c : tie.At-match2-rest Inv-loop μ-loop) → shape-of (shape (c .before)) ≡ 0 ∷ shape (c .before) .bound ∷ []
-two c = shape-two (shape (c .before)) (more-than-one (c .match2 .rest .0 .1) (c .match2 .rest .1))
-
--- The second part of a node, which is left pending, fits.
-second : (c : tie.At-match2-rest Inv-loop μ-loop)
-    → let l = c .before .before .before .before .before .before .before in
-    Fits (l .loop .waiting + 1) (l .loop .room - 1) (l .loop .binders + shape (c .before) .bound)
-second c =
-    let i = c .before .before .before .before .before .before in
-    second-fits (i .before .loop .inv) (i .loop-test .taken) (parts (c .before) (two c))
+second-fits-here : (c : tie.After-enum-told Inv-loop μ-loop)
+    → let l = here c .before .loop in
+    Fits (l .waiting + 1) (l .room - 1) (l .binders + second (binds (meaning (word (here c)))))
+second-fits-here c = second-fits (here c .before .loop .inv) (here c .loop-test .taken) (passes c)
 
 loop-holds : tie.Need-loop-holds Inv-loop μ-loop
 loop-holds c = begins _ _ _ refl refl
+
+tested-requires : tie.Need-tested-requires Inv-loop μ-loop
+tested-requires c κs = omega (arith, fits (c .before .before .loop .inv) .shallow)
 
 returns : tie.Need-returns Inv-loop μ-loop
 returns c =
     let i = c .before .before .before .before .before in
     turn-refused (i .before .loop .inv) (i .loop-test .taken) (seen (c .before .before .before) (c .before .reason .given .1))
 
-returns-2 : tie.Need-returns-2 Inv-loop μ-loop
-returns-2 c =
-    let i = c .before .before .before .before .before .before .before in
-    let last = parts (c .before .before) (leaf (c .before)) in
-    turn-last (i .before .loop .inv) (i .loop-test .taken) (c .if1 .taken) last
-
-array-read-from-byte : tie.Need-array-read-from-byte Inv-loop μ-loop
-array-read-from-byte c =
-    let i = c .before .before .before .before .before .before .before .before .loop .inv in
-    omega (arith, pos-of-ne-zero (c .if1 .left), i .fits .few)
-
-array-read-from-byte-2 : tie.Need-array-read-from-byte-2 Inv-loop μ-loop
-array-read-from-byte-2 c = array-read-from-byte (c .before)
-
-sub-room : tie.Need-sub-room Inv-loop μ-loop
-sub-room c = has-level _ _ _ (parts (c .before) (one c))
-
-sub-room-2 : tie.Need-sub-room-2 Inv-loop μ-loop
-sub-room-2 c = has-level _ _ _ (parts (c .before) (two c))
+sub-to-byte : tie.Need-sub-to-byte Inv-loop μ-loop
+sub-to-byte c = level (here c .before .loop .inv) (here c .loop-test .taken) (passes c)
 
 to-byte-requires : tie.Need-to-byte-requires Inv-loop μ-loop
-to-byte-requires c κs = omega (arith, second c .shallow)
+to-byte-requires c κs = omega (arith, second-fits-here c .few)
+
+add-first : tie.Need-add-first Inv-loop μ-loop
+add-first c = omega (arith, second-fits-here (c .before) .few)
 
 array-write-rooms : tie.Need-array-write-rooms Inv-loop μ-loop
-array-write-rooms c = omega (arith, second (c .before) .few)
+array-write-rooms c = omega (arith, second-fits-here (c .before) .few)
+
+array-write-rooms-2 : tie.Need-array-write-rooms-2 Inv-loop μ-loop
+array-write-rooms-2 c = omega (arith, second-fits-here (c .before) .few)
+
+-- The binders around a second part, as they are computed.
+scope-fits : (c : tie.After-wide Inv-loop μ-loop)
+    → let l = here (c .before .before .before) .before .loop in
+    Fits (l .waiting + 1) (l .room - 1) (l .binders + c .wide .result)
+scope-fits c = rw (c .wide .ensures, c .before .bound .ensures) (second-fits-here (c .before .before .before))
 
 add-to-byte : tie.Need-add-to-byte Inv-loop μ-loop
-add-to-byte c = omega (arith, second (c .before .before) .shallow, c .wide .ensures)
+add-to-byte c = omega (arith, scope-fits c .shallow)
 
 to-byte-requires-2 : tie.Need-to-byte-requires-2 Inv-loop μ-loop
-to-byte-requires-2 c κs = omega (arith, second (c .before .before) .shallow, c .wide .ensures)
+to-byte-requires-2 c κs = omega (arith, scope-fits c .shallow)
 
 array-write-scopes : tie.Need-array-write-scopes Inv-loop μ-loop
-array-write-scopes c = omega (arith, second (c .before .before .before) .few)
+array-write-scopes c = omega (arith, scope-fits (c .before) .few)
+
+to-byte-requires-3 : tie.Need-to-byte-requires-3 Inv-loop μ-loop
+to-byte-requires-3 c κs = omega (arith, scope-fits (c .before) .shallow)
+
+array-write-scopes-2 : tie.Need-array-write-scopes-2 Inv-loop μ-loop
+array-write-scopes-2 c = omega (arith, scope-fits (c .before .before) .few)
+
+-- The entries that count after the turn are two more at most.
+more : (c : tie.After-parts Inv-loop μ-loop) → here (c .before .before .before .before .before .before) .before .loop .waiting + c .parts .result < 66
+more c =
+    let l = here (c .before .before .before .before .before .before) in
+    omega (arith, c .parts .ensures, two-at-most (word l), scope-fits (c .before .before .before) .few)
 
 add-waiting : tie.Need-add-waiting Inv-loop μ-loop
-add-waiting c = omega (arith, second (c .before .before .before) .few)
+add-waiting c = omega (arith, more c)
+
+returns-2 : tie.Need-returns-2 Inv-loop μ-loop
+returns-2 c =
+    let t = c .before .before .before .before .before .before .before in
+    turn-last (here t .before .loop .inv) (here t .loop-test .taken) (passes t) (rw (← c .before .parts .ensures) (c .if1 .taken))
+
+sub-waiting : tie.Need-sub-waiting Inv-loop μ-loop
+sub-waiting c = pos-of-ne-zero (c .if1 .left)
+
+array-read-from-byte : tie.Need-array-read-from-byte Inv-loop μ-loop
+array-read-from-byte c = omega (arith, more (c .before))
+
+array-read-from-byte-2 : tie.Need-array-read-from-byte-2 Inv-loop μ-loop
+array-read-from-byte-2 c = omega (arith, more (c .before .before))
 
 loop-less : tie.Need-loop-less Inv-loop μ-loop
-loop-less c = omega (arith, c .before .before .before .before .before .before .loop-test .taken)
+loop-less c = omega (arith, here (c .before .before .before .before .before .before .before .before .before) .loop-test .taken)
 
--- By any arm the reading stands at the next place.
+-- What the arrays hold then is what the turn's law says of them, with the results of the calls put in.
 loop-again : tie.Need-loop-again Inv-loop μ-loop
 loop-again c =
-    let k = c .before in
-    let i = k .before .before .before .before .before in
-    ⊎-elim
-    (λ w.
-    let last = parts k (leaf (record { before = k; match2 = w .0 })) in
-    rw
-    (w .4, w .5, w .6, w .7, w .8, w .2 .ensures, w .3 .ensures)
-    (turn-leaf (i .before .loop .inv) (i .loop-test .taken) (pos-of-ne-zero (w .1 .left)) last))
-    (⊎-elim
-    (λ w.
-    rw
-    (w .1, w .2, w .3, w .4, w .5)
-    (turn-one (i .before .loop .inv) (i .loop-test .taken) (parts k (one (record { before = k; match2 = w .0 })))))
-    (λ w.
-    rw
-    (w .4, w .5, w .6, w .7, w .8, w .1 .ensures, w .3 .ensures, w .2 .ensures)
-    (turn-two (i .before .loop .inv) (i .loop-test .taken) (parts k (two (record { before = k; match2 = w .0 }))))))
-    (c .match2 .came)
+    let p = c .before .before .before in
+    let s = p .before .before in
+    let b = s .before .before in
+    let t = b .before .before in
+    rw (
+      c .from-byte2 .ensures,
+      c .before .from-byte .ensures,
+      p .parts .ensures,
+      p .before .to-byte3 .ensures,
+      s .to-byte2 .ensures,
+      s .before .wide .ensures,
+      b .bound .ensures,
+      b .before .to-byte .ensures,
+    )
+    (turn-next
+    (here t .before .loop .inv)
+    (here t .loop-test .taken)
+    (passes t)
+    (rw (← p .parts .ensures) (pos-of-ne-zero (c .before .before .if1 .left))))
 
 returns-3 : tie.Need-returns-3 Inv-loop μ-loop
 returns-3 c = short (c .before .loop .inv) (c .loop-test .left)
@@ -152,7 +156,8 @@ pub read-first-spec : {M : Type 1} → statement M
 read-first-spec =
     tie.close
     (tie.spec
-    Inv-loop μ-loop loop-holds (λ c. search needs) (λ c. search needs) (λ c κs. search needs) (λ c. search needs) returns
-    (λ c. search needs) (λ c. search needs) returns-2 (λ c. search needs) array-read-from-byte (λ c κs. search needs)
-    array-read-from-byte-2 (λ c κs. search needs) sub-room sub-room-2 to-byte-requires array-write-rooms (λ c κs. search needs)
-    add-to-byte to-byte-requires-2 array-write-scopes add-waiting (λ c. search needs) loop-less loop-again returns-3)
+    Inv-loop μ-loop loop-holds (λ c. search needs) (λ c. search needs) tested-requires (λ c. search needs) returns
+    (λ c. search needs) sub-to-byte to-byte-requires add-first array-write-rooms array-write-rooms-2 (λ c κs. search needs)
+    (λ c κs. search needs) add-to-byte to-byte-requires-2 array-write-scopes to-byte-requires-3 array-write-scopes-2
+    (λ c κs. search needs) add-waiting (λ c. search needs) returns-2 sub-waiting array-read-from-byte (λ c κs. search needs)
+    array-read-from-byte-2 (λ c κs. search needs) loop-less loop-again returns-3)

@@ -1,6 +1,6 @@
 -- What is known at the later places of `abstraction`, from the answers up to there. Once `star_part` has answered, the annotation
 -- is typed, so that its own words are known and the words reach beyond it. The body's type is to lie behind room for the
--- product's word and the annotation where these fit. Once `infer` has answered, both parts are typed, and the room is still the
+-- product's node and the annotation where these fit. Once `infer` has answered, both parts are typed, and the room is still the
 -- node's, since no call changes the slice's length.
 use Prim.Native.Nat.{ℕ, _+_, _-_, _*_, _≤_, _<_, _^_}
 use mathlib.Core.List.{_∷_}
@@ -28,28 +28,42 @@ abbrev pub Node : (t : ℕ)
 Node t start Γ a e =
     Subject Γ (lam a e) (start .args .term .now) (start .args .sub .now) (start .args .context .now) (start .args .depth)
 
--- The start, from where the annotation is typed; and that place, from where both parts are.
+-- Where `star_part` and `infer` had answered, the start, and where the annotation is typed, from the places behind them.
+abbrev pub star-place : (t : ℕ)
+    → abstraction-lts.After-known-told (abstraction-claims t) (abstraction-at t) abstraction.Post
+    → abstraction-lts.After-star-part (abstraction-claims t) (abstraction-at t) abstraction.Post
+star-place t c = c .before .before .before .before .before .before .before
+
 abbrev pub start-place : (t : ℕ)
     → abstraction-lts.After-known-told (abstraction-claims t) (abstraction-at t) abstraction.Post
     → abstraction-lts.Start (abstraction-claims t) (abstraction-at t) abstraction.Post
-start-place t c = c .before .before .before .before .before .before .before .before .before .before .before .before
+start-place t c = star-place t c .before .before .before .before .before .before .before .before .before
 
 abbrev pub annotation-place : (t : ℕ)
     → abstraction-lts.After-known-told2 (abstraction-claims t) (abstraction-at t) abstraction.Post
     → abstraction-lts.After-known-told (abstraction-claims t) (abstraction-at t) abstraction.Post
-annotation-place t c = c .before .before .before .before .before .before .before .before .before .before .before .before
+annotation-place t c =
+    c .before .before .before .before .before .before .before .before .before .before .before .before .before .before .before
+
+abbrev pub body-place : (t : ℕ)
+    → abstraction-lts.After-known-told2 (abstraction-claims t) (abstraction-at t) abstraction.Post
+    → abstraction-lts.After-infer (abstraction-claims t) (abstraction-at t) abstraction.Post
+body-place t c = c .before .before .before .before .before .before .before
 
 -- The annotation is typed.
-pub typed-annotation : (t : ℕ) (c : abstraction-lts.After-known-told (abstraction-claims t) (abstraction-at t) abstraction.Post) (Γ : Context) (a e : Term)
+pub typed-annotation : (t : ℕ) (c : abstraction-lts.After-known-told (abstraction-claims t) (abstraction-at t) abstraction.Post)
+    (Γ : Context) (a e : Term)
     → let start = start-place t c in
     let annotation = c .before .annotation .given .0 in
-    let star-part = c .before .before .before .before .before .star-part in
+    let star-part = c .before .before .before .before .before .before .before .star-part in
     Node t start Γ a e
     → Part (star-typed (start .args .limit) Γ (length (start .args .term .now) - length (behind 1 (start .args .sub .now))) a) a
-    (start .args .context .now) (start .args .depth) (start .args .work .now) (start .args .top) (annotation .0) (annotation .1 .0)
+    (start .args .context .now) (start .args .depth) (start .args .work .now) (start .args .top) (annotation .0)
+    (annotation .1 .0)
     (star-part .last .1 .1 .1 .1 .0) (star-part .last .1 .1 .0)
 typed-annotation t c Γ a e S =
-    typed (c .before .before .before .before .before .star-part .ensures Γ a (first S of-lam)) (c .before .annotation .given .1)
+    typed (c .before .before .before .before .before .before .before .star-part .ensures Γ a (first S of-lam))
+    (c .before .annotation .given .1)
 
 -- The words reach beyond it.
 pub reach : (t : ℕ) (c : abstraction-lts.After-known-told (abstraction-claims t) (abstraction-at t) abstraction.Post)
@@ -57,17 +71,18 @@ pub reach : (t : ℕ) (c : abstraction-lts.After-known-told (abstraction-claims 
     (1 + c .before .annotation .given .0 .0 < length (start .args .sub .now)) × (length (start .args .sub .now) ≤ longest)
 reach t c =
     let start = start-place t c in
-    let P = start .pre .1 in
+    let P = start .pre .1 .1 in
     reaches (P .3) _ (typed-annotation t c (P .0) (P .1) (P .2) (P .3)) (of-lam {e = P .2})
 
--- The words that are copied are its own.
-pub copied : (t : ℕ) (c : abstraction-lts.After-known-told (abstraction-claims t) (abstraction-at t) abstraction.Post) (Γ : Context) (a e : Term)
+-- The words that are noted are its own.
+pub noted : (t : ℕ) (c : abstraction-lts.After-known-told (abstraction-claims t) (abstraction-at t) abstraction.Post)
+    (Γ : Context) (a e : Term)
     → let start = start-place t c in
     Node t start Γ a e
     → take (1 + c .before .annotation .given .0 .0 - 1) (drop 1 (start .args .sub .now)) ≡ words a
-copied t c Γ a e S = annotation-words S _ (typed-annotation t c Γ a e S) (of-lam {e = e})
+noted t c Γ a e S = annotation-words S _ (typed-annotation t c Γ a e S) (of-lam {e = e})
 
--- Where the body's type is to lie: behind room for the product's word and the annotation, if these fit.
+-- Where the body's type is to lie: behind room for the product's node and the annotation, if these fit.
 pub skips : (t : ℕ) (c : abstraction-lts.Joined1 (abstraction-claims t) (abstraction-at t) abstraction.Post)
     → let after-known-told = c .before .before in
     let start = start-place t after-known-told in
@@ -78,9 +93,10 @@ skips t c =
     (λ w. let h = w .0 .left in let q = w .1 in (omega arith, λ x. absurd (omega arith))) (c .if1 .came)
 
 -- Both parts are typed.
-pub both : (t : ℕ) (c : abstraction-lts.After-known-told2 (abstraction-claims t) (abstraction-at t) abstraction.Post) (Γ : Context) (a e : Term)
-    → let after-infer = c .before .before .before .before .before in
-    let joined1 = after-infer .before .before .before .before .before in
+pub both : (t : ℕ) (c : abstraction-lts.After-known-told2 (abstraction-claims t) (abstraction-at t) abstraction.Post)
+    (Γ : Context) (a e : Term)
+    → let after-infer = c .before .before .before .before .before .before .before in
+    let joined1 = after-infer .before .before .before .before .before .before in
     let after-known-told = annotation-place t c in
     let start = start-place t after-known-told in
     Node t start Γ a e
@@ -89,35 +105,50 @@ pub both : (t : ℕ) (c : abstraction-lts.After-known-told2 (abstraction-claims 
     (start .args .top + joined1 .if1 .skip) (after-known-told .before .annotation .given .0 .0) (c .before .body .given .0 .0)
     (c .before .body .given .0 .1 .0) (after-infer .infer .last .1 .1 .1 .1 .0) (after-infer .infer .last .1 .1 .0)
 both t c Γ a e S =
-    let after-infer = c .before .before .before .before .before in
-    let after-narrow = after-infer .before .before .before .before .before .before in
+    let after-infer = c .before .before .before .before .before .before .before in
+    let after-narrow = after-infer .before .before .before .before .before .before .before in
     let A = typed-annotation t (annotation-place t c) Γ a e S in
     let E = below S _ A (after-narrow .narrow .result) (of-lam {e = e}) (after-narrow .narrow .ensures) in
-    both-below S _ A (after-narrow .narrow .result) of-lam (after-narrow .narrow .ensures) (omega arith) (typed (after-infer .infer .ensures (a ∷ Γ) e E) (c .before .body .given .1))
+    both-below S _ A (after-narrow .narrow .result) of-lam (after-narrow .narrow .ensures) (omega arith)
+    (typed (after-infer .infer .ensures (a ∷ Γ) e E) (c .before .body .given .1))
 
 -- How long both parts and the body's type can be.
 pub lengths : (t : ℕ) (c : abstraction-lts.After-known-told2 (abstraction-claims t) (abstraction-at t) abstraction.Post)
     → (1 + annotation-place t c .before .annotation .given .0 .0 + c .before .body .given .0 .0 ≤ longest)
     × (c .before .body .given .0 .1 .0 ≤ longest)
 lengths t c =
-    let P = start-place t (annotation-place t c) .pre .1 in
+    let P = start-place t (annotation-place t c) .pre .1 .1 in
     let B = both t c (P .0) (P .1) (P .2) (P .3) in
     omega (arith, both-reach (P .3) of-lam B, B .long, B .fits, P .4 .allowed)
 
--- The slice is as long as it was.
-pub long : (t : ℕ) (c : abstraction-lts.After-known-told2 (abstraction-claims t) (abstraction-at t) abstraction.Post)
-    → length (c .before .before .before .before .before .infer .last .1 .1 .1 .1 .0) ≡ length (start-place t (annotation-place t c) .args .work .now)
-long t c =
-    c .before .before .before .before .before .infer .kept .1 .1 .1 .1 .0
-    ∙ annotation-place t c .before .before .before .before .before .star-part .kept .1 .1 .1 .1 .0
+-- The slice and `held` are as long as they were.
+pub long : (t : ℕ) (c : abstraction-lts.After-infer (abstraction-claims t) (abstraction-at t) abstraction.Post)
+    → length (c .infer .last .1 .1 .1 .1 .0) ≡ length
+    (start-place t (c .before .before .before .before .before .before .before .before) .args .work .now)
+long t c = c .infer .kept .1 .1 .1 .1 .0 ∙ star-place t
+    (c .before .before .before .before .before .before .before .before) .star-part .kept .1 .1 .1 .1 .0
+
+pub held-long : (t : ℕ) (c : abstraction-lts.After-infer (abstraction-claims t) (abstraction-at t) abstraction.Post)
+    → length (c .infer .last .1 .1 .1 .1 .1 .1 .1 .0) ≡ length
+    (start-place t (c .before .before .before .before .before .before .before .before) .args .held .now)
+held-long t c = c .infer .kept .1 .1 .1 .1 .1 .1 .1 .0 ∙ star-place t
+    (c .before .before .before .before .before .before .before .before) .star-part .kept .1 .1 .1 .1 .1 .1 .1 .0
 
 -- There is room for two types.
 pub room : (t : ℕ) (c : abstraction-lts.After-known-told2 (abstraction-claims t) (abstraction-at t) abstraction.Post)
-    → let after-infer = c .before .before .before .before .before in
+    → let after-infer = c .before .before .before .before .before .before .before in
     let start = start-place t (annotation-place t c) in
-    (start .args .top + (start .args .limit + start .args .limit) ≤ length (after-infer .infer .last .1 .1 .1 .1 .0)) × (1 ≤ start .args .limit)
+    (2 * (start .args .top + (start .args .limit + start .args .limit)) ≤ length (after-infer .infer .last .1 .1 .1 .1 .0))
+    × (1 ≤ start .args .limit)
     × (length (after-infer .infer .last .1 .1 .1 .1 .0) * 2 < 2 ^ 63)
 room t c =
     let start = start-place t (annotation-place t c) in
-    let R = start .pre .1 .4 in
-    omega (arith, R .some, room-two R, start .good .1 .1 .1 .1 .0 .1, long t c)
+    let R = start .pre .1 .1 .4 in
+    omega (
+      arith,
+      R .some,
+      room-two R,
+      start .good .1 .1 .1 .1 .0 .1,
+      long t
+          (c .before .before .before .before .before .before .before),
+    )

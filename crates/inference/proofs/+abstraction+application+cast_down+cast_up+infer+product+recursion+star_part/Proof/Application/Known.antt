@@ -27,7 +27,7 @@ use Rattle.inference.proofs.+abstraction+application+cast_down+cast_up+
 pub record Reach (from sub next room : ℕ) : Type 0 where
   pub within : from ≤ sub
   pub short : sub ≤ longest
-  pub fits : next ≤ room
+  pub fits : 2 * next ≤ room
   pub small : room * 2 < 2 ^ 63
 
 -- The application, as the subject where the code starts.
@@ -37,27 +37,38 @@ abbrev pub Node : (t : ℕ)
 Node t start Γ f u =
     Subject Γ (app f u) (start .args .term .now) (start .args .sub .now) (start .args .context .now) (start .args .depth)
 
--- The start, from where the function is typed; and that place, from where both parts are.
+-- Where `infer` had answered for each part, the start, and where the function is typed, from the places behind them.
+abbrev pub called-place : (t : ℕ)
+    → application-lts.After-function (application-claims t) (application-at t) application.Post
+    → application-lts.After-infer (application-claims t) (application-at t) application.Post
+called-place t c = c .before .before .before .before .before .before
+
 abbrev pub start-place : (t : ℕ)
     → application-lts.After-function (application-claims t) (application-at t) application.Post
     → application-lts.Start (application-claims t) (application-at t) application.Post
-start-place t c = c .before .before .before .before .before .before .before .before .before .before .before
+start-place t c = called-place t c .before .before .before .before .before .before .before .before .before
+
+abbrev pub argument-place : (t : ℕ)
+    → application-lts.After-known-told2 (application-claims t) (application-at t) application.Post
+    → application-lts.After-infer2 (application-claims t) (application-at t) application.Post
+argument-place t c = c .before .before .before .before .before .before .before
 
 abbrev pub function-place : (t : ℕ)
     → application-lts.After-known-told2 (application-claims t) (application-at t) application.Post
     → application-lts.After-function (application-claims t) (application-at t) application.Post
-function-place t c = c .before .before .before .before .before .before .before .before .before .before .before .before .before .before
+function-place t c = argument-place t c .before .before .before .before .before .before .before .before .before .before
 
 -- The function is typed.
-pub typed-function : (t : ℕ) (c : application-lts.After-function (application-claims t) (application-at t) application.Post) (Γ : Context) (f u : Term)
-    → let function-infer = c .before .before .before .before .infer in
+pub typed-function : (t : ℕ) (c : application-lts.After-function (application-claims t) (application-at t) application.Post)
+    (Γ : Context) (f u : Term)
+    → let function-infer = c .before .before .before .before .before .before .infer in
     let start = start-place t c in
     Node t start Γ f u
     → Part (infer (start .args .limit) Γ (length (start .args .term .now) - length (behind 1 (start .args .sub .now))) f) f
     (start .args .context .now) (start .args .depth) (start .args .work .now) (start .args .top) (c .function .given .0 .0)
     (c .function .given .0 .1 .0) (function-infer .last .1 .1 .1 .1 .0) (function-infer .last .1 .1 .0)
 typed-function t c Γ f u S =
-    typed (c .before .before .before .before .infer .ensures Γ f (first S of-app)) (c .function .given .1)
+    typed (c .before .before .before .before .before .before .infer .ensures Γ f (first S of-app)) (c .function .given .1)
 
 -- The words and the room reach beyond it.
 pub reach : (t : ℕ) (c : application-lts.After-enum-told2 (application-claims t) (application-at t) application.Post)
@@ -66,7 +77,7 @@ pub reach : (t : ℕ) (c : application-lts.After-enum-told2 (application-claims 
     Reach (1 + function .0) (length (start .args .sub .now)) (start .args .top + function .1 .0) (length (start .args .work .now))
 reach t c =
     let start = start-place t (c .before .before .before .before .before) in
-    let P = start .pre .1 in
+    let P = start .pre .1 .1 in
     let function = typed-function t (c .before .before .before .before .before) (P .0) (P .1) (P .2) (P .3) in
     let fits = type-fits (first (P .3) of-app) _ _ (function .found) in
     record {
@@ -77,27 +88,35 @@ reach t c =
     }
 
 -- Function and argument are typed.
-pub calls : (t : ℕ) (c : application-lts.After-known-told2 (application-claims t) (application-at t) application.Post) (Γ : Context) (f u : Term)
+pub calls : (t : ℕ) (c : application-lts.After-known-told2 (application-claims t) (application-at t) application.Post)
+    (Γ : Context) (f u : Term)
     → let function = function-place t c .function .given .0 in
     let start = start-place t (function-place t c) in
     Node t start Γ f u
     → Called (start .args .limit) Γ (length (start .args .term .now) - length (start .args .sub .now)) f u
     (start .args .context .now) (start .args .depth) (start .args .work .now) (start .args .top)
     (function .0) (c .before .argument .given .0 .0) (function .1 .0) (c .before .argument .given .0 .1 .0)
-    (c .before .before .before .before .before .infer2 .last .1 .1 .1 .1 .0)
-    (c .before .before .before .before .before .infer2 .last .1 .1 .0)
+    (c .before .before .before .before .before .before .before .infer2 .last .1 .1 .1 .1 .0)
+    (c .before .before .before .before .before .before .before .infer2 .last .1 .1 .0)
 calls t c Γ f u S =
-    let told = c .before .before .before .before .before .before .before .before .before in
+    let told = argument-place t c .before .before .before .before .before in
     let function = typed-function t (told .before .before .before .before .before) Γ f u S in
     called S _ function (ap meaning-of (sym (told .enum-told2 .given .1)) ∙ told .before .before .classify .ensures)
-    (typed (c .before .before .before .before .before .infer2 .ensures Γ u (argument-subject S _ function)) (c .before .argument .given .1))
+    (typed (c .before .before .before .before .before .before .before .infer2 .ensures Γ u (argument-subject S _ function))
+    (c .before .argument .given .1))
 
--- The slice is as long as it was.
-pub long : (t : ℕ) (c : application-lts.After-known-told2 (application-claims t) (application-at t) application.Post)
-    → length (c .before .before .before .before .before .infer2 .last .1 .1 .1 .1 .0) ≡ length (start-place t (function-place t c) .args .work .now)
-long t c =
-    c .before .before .before .before .before .infer2 .kept .1 .1 .1 .1 .0
-    ∙ function-place t c .before .before .before .before .infer .kept .1 .1 .1 .1 .0
+-- The slice and `held` are as long as they were.
+pub long : (t : ℕ) (c : application-lts.After-infer2 (application-claims t) (application-at t) application.Post)
+    → length (c .infer2 .last .1 .1 .1 .1 .0) ≡ length
+    (start-place t (c .before .before .before .before .before .before .before .before .before .before) .args .work .now)
+long t c = c .infer2 .kept .1 .1 .1 .1 .0 ∙ called-place t
+    (c .before .before .before .before .before .before .before .before .before .before) .infer .kept .1 .1 .1 .1 .0
+
+pub held-long : (t : ℕ) (c : application-lts.After-infer2 (application-claims t) (application-at t) application.Post)
+    → length (c .infer2 .last .1 .1 .1 .1 .1 .1 .1 .0) ≡ length
+    (start-place t (c .before .before .before .before .before .before .before .before .before .before) .args .held .now)
+held-long t c = c .infer2 .kept .1 .1 .1 .1 .1 .1 .1 .0 ∙ called-place t
+    (c .before .before .before .before .before .before .before .before .before .before) .infer .kept .1 .1 .1 .1 .1 .1 .1 .0
 
 -- The words reach to the end of the argument.
 pub reach-both : (t : ℕ) (c : application-lts.After-known-told2 (application-claims t) (application-at t) application.Post)
@@ -105,26 +124,29 @@ pub reach-both : (t : ℕ) (c : application-lts.After-known-told2 (application-c
     (1 + function-place t c .function .given .0 .0 + c .before .argument .given .0 .0 ≤ length (start .args .sub .now))
     × (length (start .args .sub .now) ≤ longest)
 reach-both t c =
-    let P = start-place t (function-place t c) .pre .1 in
+    let P = start-place t (function-place t c) .pre .1 .1 in
     let C = calls t c (P .0) (P .1) (P .2) (P .3) in
     omega (arith, subject-parts (P .3) of-app, C .read, C .further, P .3 .within, P .3 .short)
 
 -- What the helper tells of the application.
-pub applies : (t : ℕ) (c : application-lts.After-apply (application-claims t) (application-at t) application.Post) (Γ : Context) (f u : Term)
-    → let after-argument = c .before .before .before in
+pub applies : (t : ℕ) (c : application-lts.After-apply (application-claims t) (application-at t) application.Post) (Γ : Context)
+    (f u : Term)
+    → let after-argument = c .before .before .before .before in
     let start = start-place t (function-place t after-argument) in
     (S : Node t start Γ f u)
     → let C = calls t after-argument Γ f u S in
-    Applies (C .domain) (C .codomain) u (C .type) (after-argument .before .before .before .before .before .infer2 .last .1 .1 .1 .1 .0)
+    Applies (C .domain) (C .codomain) u (C .type)
+    (after-argument .before .before .before .before .before .before .before .infer2 .last .1 .1 .1 .1 .0)
     (start .args .top) (start .args .limit) (c .apply .result) (c .apply .last .1 .1 .0)
 applies t c Γ f u S =
-    let after-argument = c .before .before .before in
+    let after-argument = c .before .before .before .before in
     let function = typed-function t (function-place t after-argument) Γ f u S in
     let C = calls t after-argument Γ f u S in
     c .apply .ensures (C .domain) (C .codomain) u (C .type) (C .lies) (argument-words S _ function (C .further)) (C .type-lies)
 
 -- If the argument's type is the domain, the type is the codomain with the argument put in, measured.
-pub measured : (t : ℕ) (c : application-lts.After-known-told2 (application-claims t) (application-at t) application.Post) (Γ : Context) (f u : Term)
+pub measured : (t : ℕ) (c : application-lts.After-known-told2 (application-claims t) (application-at t) application.Post)
+    (Γ : Context) (f u : Term)
     → let start = start-place t (function-place t c) in
     (S : Node t start Γ f u)
     → calls t c Γ f u S .type ≡ calls t c Γ f u S .domain
@@ -134,5 +156,6 @@ measured t c Γ f u S alike = let C = calls t c Γ f u S in right _ Γ _ f u (C 
 
 -- The slice is still as long once the codomain is written.
 pub long-applied : (t : ℕ) (c : application-lts.After-apply (application-claims t) (application-at t) application.Post)
-    → length (c .apply .last .1 .1 .0) ≡ length (start-place t (function-place t (c .before .before .before)) .args .work .now)
-long-applied t c = c .apply .kept .1 .1 .0 ∙ long t (c .before .before .before)
+    → length (c .apply .last .1 .1 .0) ≡ length
+    (start-place t (function-place t (c .before .before .before .before)) .args .work .now)
+long-applied t c = c .apply .kept .1 .1 .0 ∙ long t (argument-place t (c .before .before .before .before))

@@ -30,28 +30,46 @@ abbrev pub Node : (t : ℕ) → cast-up-lts.Start (cast-up-claims t) (cast-up-at
 Node t start Γ a e =
     Subject Γ (castup a e) (start .args .term .now) (start .args .sub .now) (start .args .context .now) (start .args .depth)
 
--- The start, from where the annotation is typed; and that place, from where both parts are.
+-- Where `star_part` and `infer` had answered, the start, and where the annotation is typed, from the places behind them.
+abbrev pub star-place : (t : ℕ)
+    → cast-up-lts.After-known-told (cast-up-claims t) (cast-up-at t) cast-up.Post
+    → cast-up-lts.After-star-part (cast-up-claims t) (cast-up-at t) cast-up.Post
+star-place t c = c .before .before .before .before .before .before .before
+
 abbrev pub start-place : (t : ℕ)
     → cast-up-lts.After-known-told (cast-up-claims t) (cast-up-at t) cast-up.Post
     → cast-up-lts.Start (cast-up-claims t) (cast-up-at t) cast-up.Post
-start-place t c = c .before .before .before .before .before .before .before .before .before .before .before .before
+start-place t c = star-place t c .before .before .before .before .before .before .before .before .before
 
 abbrev pub annotation-place : (t : ℕ)
     → cast-up-lts.After-known-told2 (cast-up-claims t) (cast-up-at t) cast-up.Post
     → cast-up-lts.After-known-told (cast-up-claims t) (cast-up-at t) cast-up.Post
-annotation-place t c = c .before .before .before .before .before .before .before .before .before
+annotation-place t c = c .before .before .before .before .before .before .before .before .before .before .before .before
+
+abbrev pub body-place : (t : ℕ)
+    → cast-up-lts.After-known-told2 (cast-up-claims t) (cast-up-at t) cast-up.Post
+    → cast-up-lts.After-infer (cast-up-claims t) (cast-up-at t) cast-up.Post
+body-place t c = c .before .before .before .before .before .before .before
+
+abbrev pub stepped-place : (t : ℕ)
+    → cast-up-lts.After-same (cast-up-claims t) (cast-up-at t) cast-up.Post
+    → cast-up-lts.After-step-into (cast-up-claims t) (cast-up-at t) cast-up.Post
+stepped-place t c = c .before .before .before .before .before .before .before .before .before .before .before
 
 -- The annotation is typed.
-pub typed-annotation : (t : ℕ) (c : cast-up-lts.After-known-told (cast-up-claims t) (cast-up-at t) cast-up.Post) (Γ : Context) (a e : Term)
+pub typed-annotation : (t : ℕ) (c : cast-up-lts.After-known-told (cast-up-claims t) (cast-up-at t) cast-up.Post) (Γ : Context)
+    (a e : Term)
     → let start = start-place t c in
     let annotation = c .before .annotation .given .0 in
-    let star-part = c .before .before .before .before .before .star-part in
+    let star-part = c .before .before .before .before .before .before .before .star-part in
     Node t start Γ a e
     → Part (star-typed (start .args .limit) Γ (length (start .args .term .now) - length (behind 1 (start .args .sub .now))) a) a
-    (start .args .context .now) (start .args .depth) (start .args .work .now) (start .args .top) (annotation .0) (annotation .1 .0)
+    (start .args .context .now) (start .args .depth) (start .args .work .now) (start .args .top) (annotation .0)
+    (annotation .1 .0)
     (star-part .last .1 .1 .1 .1 .0) (star-part .last .1 .1 .0)
 typed-annotation t c Γ a e S =
-    typed (c .before .before .before .before .before .star-part .ensures Γ a (first S of-castup)) (c .before .annotation .given .1)
+    typed (c .before .before .before .before .before .before .before .star-part .ensures Γ a (first S of-castup))
+    (c .before .annotation .given .1)
 
 -- The words reach beyond it.
 pub reach : (t : ℕ) (c : cast-up-lts.After-known-told (cast-up-claims t) (cast-up-at t) cast-up.Post)
@@ -59,19 +77,19 @@ pub reach : (t : ℕ) (c : cast-up-lts.After-known-told (cast-up-claims t) (cast
     (1 + c .before .annotation .given .0 .0 < length (start .args .sub .now)) × (length (start .args .sub .now) ≤ longest)
 reach t c =
     let start = start-place t c in
-    let P = start .pre .1 in
+    let P = start .pre .1 .1 in
     reaches (P .3) _ (typed-annotation t c (P .0) (P .1) (P .2) (P .3)) (of-castup {e = P .2})
 
--- The words that are copied are its own.
-pub copied : (t : ℕ) (c : cast-up-lts.After-known-told (cast-up-claims t) (cast-up-at t) cast-up.Post) (Γ : Context) (a e : Term)
+-- The words that are noted are its own.
+pub noted : (t : ℕ) (c : cast-up-lts.After-known-told (cast-up-claims t) (cast-up-at t) cast-up.Post) (Γ : Context) (a e : Term)
     → let start = start-place t c in
     Node t start Γ a e
     → take (1 + c .before .annotation .given .0 .0 - 1) (drop 1 (start .args .sub .now)) ≡ words a
-copied t c Γ a e S = annotation-words S _ (typed-annotation t c Γ a e S) (of-castup {e = e})
+noted t c Γ a e S = annotation-words S _ (typed-annotation t c Γ a e S) (of-castup {e = e})
 
 -- Both parts are typed.
 pub both : (t : ℕ) (c : cast-up-lts.After-known-told2 (cast-up-claims t) (cast-up-at t) cast-up.Post) (Γ : Context) (a e : Term)
-    → let after-infer = c .before .before .before .before .before in
+    → let after-infer = c .before .before .before .before .before .before .before in
     let after-known-told = annotation-place t c in
     let start = start-place t after-known-told in
     Node t start Γ a e
@@ -80,79 +98,107 @@ pub both : (t : ℕ) (c : cast-up-lts.After-known-told2 (cast-up-claims t) (cast
     (after-known-told .before .annotation .given .0 .0) (c .before .body .given .0 .0) (c .before .body .given .0 .1 .0)
     (after-infer .infer .last .1 .1 .1 .1 .0) (after-infer .infer .last .1 .1 .0)
 both t c Γ a e S =
-    let after-infer = c .before .before .before .before .before in
+    let after-infer = c .before .before .before .before .before .before .before in
     let A = typed-annotation t (annotation-place t c) Γ a e S in
     both-beside S _ A of-castup (typed (after-infer .infer .ensures Γ e (beside S _ A of-castup)) (c .before .body .given .1))
 
--- The slice is as long as it was.
-pub long : (t : ℕ) (c : cast-up-lts.After-known-told2 (cast-up-claims t) (cast-up-at t) cast-up.Post)
-    → length (c .before .before .before .before .before .infer .last .1 .1 .1 .1 .0) ≡ length (start-place t (annotation-place t c) .args .work .now)
-long t c =
-    c .before .before .before .before .before .infer .kept .1 .1 .1 .1 .0
-    ∙ annotation-place t c .before .before .before .before .before .star-part .kept .1 .1 .1 .1 .0
+-- The slice and `held` are as long as they were.
+pub long : (t : ℕ) (c : cast-up-lts.After-infer (cast-up-claims t) (cast-up-at t) cast-up.Post)
+    → length (c .infer .last .1 .1 .1 .1 .0) ≡ length (start-place t (c .before .before .before .before .before) .args .work .now)
+long t c = c .infer .kept .1 .1 .1 .1 .0 ∙ star-place t
+    (c .before .before .before .before .before) .star-part .kept .1 .1 .1 .1 .0
+
+pub held-long : (t : ℕ) (c : cast-up-lts.After-infer (cast-up-claims t) (cast-up-at t) cast-up.Post)
+    → length (c .infer .last .1 .1 .1 .1 .1 .1 .1 .0) ≡ length
+    (start-place t (c .before .before .before .before .before) .args .held .now)
+held-long t c = c .infer .kept .1 .1 .1 .1 .1 .1 .1 .0 ∙ star-place t
+    (c .before .before .before .before .before) .star-part .kept .1 .1 .1 .1 .1 .1 .1 .0
 
 -- There is room behind the body's type.
 pub room : (t : ℕ) (c : cast-up-lts.After-known-told2 (cast-up-claims t) (cast-up-at t) cast-up.Post)
-    → let after-infer = c .before .before .before .before .before in
+    → let after-infer = c .before .before .before .before .before .before .before in
     let start = start-place t (annotation-place t c) in
-    (start .args .top + (c .before .body .given .0 .1 .0 + start .args .limit) ≤ length (after-infer .infer .last .1 .1 .1 .1 .0))
+    (2 * (start .args .top + (c .before .body .given .0 .1 .0 + start .args .limit)) ≤ length
+    (after-infer .infer .last .1 .1 .1 .1 .0))
     × (c .before .body .given .0 .1 .0 ≤ start .args .limit)
     × (length (after-infer .infer .last .1 .1 .1 .1 .0) * 2 < 2 ^ 63)
 room t c =
     let start = start-place t (annotation-place t c) in
-    let P = start .pre .1 in
+    let P = start .pre .1 .1 in
     let B = both t c (P .0) (P .1) (P .2) (P .3) in
-    omega (arith, B .long, B .fits, room-two (P .4), start .good .1 .1 .1 .1 .0 .1, long t c)
+    omega (
+      arith,
+      B .long,
+      B .fits,
+      room-two (P .4),
+      start .good .1 .1 .1 .1 .0 .1,
+      long t
+          (c .before .before .before .before .before .before .before),
+    )
 
 -- What the step writes behind the body's type.
 pub moves : (t : ℕ) (c : cast-up-lts.After-step-into (cast-up-claims t) (cast-up-at t) cast-up.Post) (Γ : Context) (a e : Term)
-    → let after-known-told2 = c .before .before .before in
+    → let after-known-told2 = c .before .before .before .before in
     let start = start-place t (annotation-place t after-known-told2) in
     Node t start Γ a e
-    → Moves (step a) (after-known-told2 .before .before .before .before .before .infer .last .1 .1 .1 .1 .0) (start .args .top + after-known-told2 .before .body .given .0 .1 .0)
+    → Moves (step a) (after-known-told2 .before .before .before .before .before .before .before .infer .last .1 .1 .1 .1 .0)
+    (start .args .top + after-known-told2 .before .body .given .0 .1 .0)
     (start .args .limit) (c .step-into .result) (c .step-into .last .1 .1 .0)
-moves t c Γ a e S = c .step-into .ensures a (copied t (annotation-place t (c .before .before .before)) Γ a e S)
+moves t c Γ a e S = c .step-into .ensures a (noted t (annotation-place t (c .before .before .before .before)) Γ a e S)
 
--- The step leaves the slice as long as it was.
+-- The step leaves both as long as they were.
 pub long-still : (t : ℕ) (c : cast-up-lts.After-step-into (cast-up-claims t) (cast-up-at t) cast-up.Post)
-    → length (c .step-into .last .1 .1 .0) ≡ length (start-place t (annotation-place t (c .before .before .before)) .args .work .now)
-long-still t c = c .step-into .kept .1 .1 .0 ∙ long t (c .before .before .before)
+    → length (c .step-into .last .1 .1 .0) ≡ length
+    (start-place t (annotation-place t (c .before .before .before .before)) .args .work .now)
+long-still t c = c .step-into .kept .1 .1 .0 ∙ long t (body-place t (c .before .before .before .before))
+
+pub held-still : (t : ℕ) (c : cast-up-lts.After-step-into (cast-up-claims t) (cast-up-at t) cast-up.Post)
+    → length (c .step-into .last .1 .1 .1 .1 .1 .0) ≡ length
+    (start-place t (annotation-place t (c .before .before .before .before)) .args .held .now)
+held-still t c = c .step-into .kept .1 .1 .1 .1 .1 .0 ∙ held-long t (body-place t (c .before .before .before .before))
 
 -- It is the annotation's next state.
-pub next-state : (t : ℕ) (c : cast-up-lts.After-known-told3 (cast-up-claims t) (cast-up-at t) cast-up.Post) (Γ : Context) (a e : Term)
-    → let after-step-into = c .before .before .before .before .before in
-    let after-known-told2 = after-step-into .before .before .before in
+pub next-state : (t : ℕ) (c : cast-up-lts.After-known-told3 (cast-up-claims t) (cast-up-at t) cast-up.Post) (Γ : Context)
+    (a e : Term)
+    → let after-step-into = c .before .before .before .before .before .before .before in
+    let after-known-told2 = after-step-into .before .before .before .before in
     let start = start-place t (annotation-place t after-known-told2) in
     Node t start Γ a e
-    → Moved (step a) (after-known-told2 .before .before .before .before .before .infer .last .1 .1 .1 .1 .0) (start .args .top + after-known-told2 .before .body .given .0 .1 .0)
+    → Moved (step a) (after-known-told2 .before .before .before .before .before .before .before .infer .last .1 .1 .1 .1 .0)
+    (start .args .top + after-known-told2 .before .body .given .0 .1 .0)
     (start .args .limit) (c .before .count .given .0 .1 .0) (after-step-into .step-into .last .1 .1 .0)
-next-state t c Γ a e S = moved _ _ _ _ _ (step a) (moves t (c .before .before .before .before .before) Γ a e S) (c .before .count .given .1)
+next-state t c Γ a e S = moved _ _ _ _ _ (step a) (moves t (c .before .before .before .before .before .before .before) Γ a e S)
+    (c .before .count .given .1)
 
 -- It lies within the slice.
 pub room-next : (t : ℕ) (c : cast-up-lts.After-known-told3 (cast-up-claims t) (cast-up-at t) cast-up.Post)
-    → let after-step-into = c .before .before .before .before .before in
-    let after-known-told2 = after-step-into .before .before .before in
+    → let after-step-into = c .before .before .before .before .before .before .before in
+    let after-known-told2 = after-step-into .before .before .before .before in
     let start = start-place t (annotation-place t after-known-told2) in
-    (start .args .top + after-known-told2 .before .body .given .0 .1 .0 + c .before .count .given .0 .1 .0 ≤ length (after-step-into .step-into .last .1 .1 .0))
+    (2 * (start .args .top + after-known-told2 .before .body .given .0 .1 .0 + c .before .count .given .0 .1 .0) ≤ length
+    (after-step-into .step-into .last .1 .1 .0))
     × (length (after-step-into .step-into .last .1 .1 .0) * 2 < 2 ^ 63)
 room-next t c =
-    let after-step-into = c .before .before .before .before .before in
-    let after-known-told2 = after-step-into .before .before .before in
-    let P = start-place t (annotation-place t after-known-told2) .pre .1 in
+    let after-step-into = c .before .before .before .before .before .before .before in
+    let after-known-told2 = after-step-into .before .before .before .before in
+    let P = start-place t (annotation-place t after-known-told2) .pre .1 .1 in
     let m = next-state t c (P .0) (P .1) (P .2) (P .3) in
     omega (arith, room t after-known-told2, m .long, m .fits, after-step-into .step-into .kept .1 .1 .0)
 
 -- Whether that is the body's type.
 pub compared : (t : ℕ) (c : cast-up-lts.After-same (cast-up-claims t) (cast-up-at t) cast-up.Post) (Γ : Context) (a e : Term)
     → let after-known-told3 = c .before .before .before .before in
-    let after-known-told2 = after-known-told3 .before .before .before .before .before .before .before .before in
+    let after-known-told2 =
+    after-known-told3 .before .before .before .before .before .before .before .before .before .before .before in
     let start = start-place t (annotation-place t after-known-told2) in
     (S : Node t start Γ a e)
     → (not (c .same .result) ≡ true → next-state t after-known-told3 Γ a e S .state ≢ both t after-known-told2 Γ a e S .type)
     × (not (c .same .result) ≡ false → next-state t after-known-told3 Γ a e S .state ≡ both t after-known-told2 Γ a e S .type)
 compared t c Γ a e S =
     let after-known-told3 = c .before .before .before .before in
-    let after-known-told2 = after-known-told3 .before .before .before .before .before .before .before .before in
+    let after-known-told2 =
+    after-known-told3 .before .before .before .before .before .before .before .before .before .before .before in
     let B = both t after-known-told2 Γ a e S in
     let m = next-state t after-known-told3 Γ a e S in
-    compared-behind _ _ _ _ (m .state) (B .type) (B .lies) (m .stored) (m .long) (omega (arith, room t after-known-told2, m .long, m .fits)) (c .same .ensures)
+    compared-behind _ _ _ _ (m .state) (B .type) (B .lies) (m .stored) (m .long)
+    (omega (arith, room t after-known-told2, m .long, m .fits)) (c .same .ensures)
