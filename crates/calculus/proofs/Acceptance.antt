@@ -9,15 +9,18 @@ use lib.Seq.{take-at}
 use Rattle.calculus.specs.Term.{Term, size}
 use Rattle.calculus.specs.Answer.{ok}
 use Rattle.calculus.specs.Words.{words, Codes}
-use Rattle.calculus.specs.Limit.{_⊢⟨_⟩_⦂_}
-use Rattle.calculus.specs.Outcomes.{begun, Checked, check}
-use Rattle.calculus.specs.Checks.{Checks, limit-refused, work-refused, output-refused, unread, untyped, typed}
+use Rattle.calculus.specs.Book.{Book, seen}
+use Rattle.calculus.specs.Limit.{_∣_∣_⊢⟨_⟩_⦂_}
+use Rattle.calculus.specs.Growing.{Grown}
+use Rattle.calculus.specs.Outcomes.{begun, Checked, check-over}
+use Rattle.calculus.specs.Checks.{Allowed, Checks, limit-refused, work-refused, output-refused, unread, untyped, typed}
 use Rattle.calculus.proofs.Coding.{words-length}
 use Rattle.calculus.proofs.CheckDemand.{check-checks}
 
-pub record Accepted (ws : List ℕ) (L : ℕ) (n : ℕ) (output : List ℕ) (t τ : Term) : Type 0 where
-  pub coded : Codes ws t
-  pub typing : [] ⊢⟨ L ⟩ t ⦂ τ
+pub record Accepted (B : Book) (o : ℕ) (ws : List ℕ) (L : ℕ) (n : ℕ) (output : List ℕ) (t τ : Term) : Type 0 where
+  pub allowed : Allowed L
+  pub coded : Codes 0 ws t
+  pub typing : B ∣ seen o B ∣ [] ⊢⟨ L ⟩ t ⦂ τ
   pub extent : n ≡ size τ
   pub front : take n output ≡ words τ
 
@@ -25,20 +28,21 @@ pub front-of-begun : (τ : Term) (O : List ℕ) → take (size τ) (begun (words
 unfolding begun
 front-of-begun τ O = take-at (words τ) (drop (length (words τ)) O) (size τ) (words-length τ)
 
-accepted-as : {ws : List ℕ} {L : ℕ} {W O : List ℕ} {n : ℕ} {c : Checked}
-    → Checks ws L W O c
+accepted-as : {B : Book} {o : ℕ} {ws : List ℕ} {L : ℕ} {W O : List ℕ} {n : ℕ} {c : Checked}
+    → Checks B o ws L W O c
     → c .answer ≡ ok n
-    → (t : Term) × (τ : Term) × Accepted ws L n (c .output) t τ
+    → (t : Term) × (τ : Term) × Accepted B o ws L n (c .output) t τ
 accepted-as (limit-refused n) e = absurd (true≢false (cc e))
 accepted-as (work-refused a w) e = absurd (true≢false (cc e))
 accepted-as (output-refused a w o) e = absurd (true≢false (cc e))
 accepted-as (unread a w o r) e = absurd (true≢false (cc e))
 accepted-as (untyped a w o c f) e = absurd (true≢false (cc e))
-accepted-as {O} {n} (typed {t} {τ} a w o c d) e =
+accepted-as {O = O} {n} (typed {t} {τ} a w o c d) e =
     let extent : n ≡ size τ = cc e in (
       t,
       τ,
       record {
+        allowed = a;
         coded = c;
         typing = d;
         extent = extent;
@@ -46,7 +50,7 @@ accepted-as {O} {n} (typed {t} {τ} a w o c d) e =
       },
     )
 
-pub accepted : (ws : List ℕ) (L : ℕ) (W O : List ℕ) (n : ℕ)
-    → check ws L W O .answer ≡ ok n
-    → (t : Term) × (τ : Term) × Accepted ws L n (check ws L W O .output) t τ
-accepted ws L W O n e = accepted-as (check-checks ws L W O) e
+pub accepted : (B : Book) → Grown B → (o : ℕ) (ws : List ℕ) (L : ℕ) (W O : List ℕ) (n : ℕ)
+    → check-over B o ws L W O .answer ≡ ok n
+    → (t : Term) × (τ : Term) × Accepted B o ws L n (check-over B o ws L W O .output) t τ
+accepted B g o ws L W O n e = accepted-as (check-checks B o ws L W O g) e

@@ -11,7 +11,7 @@ use native.Mathlib.Omega.{arith}
 use lib.Dec.{T}
 use Rattle.calculus.specs.Term.{Term, var, star, app, lam, pi, castup, castdown, mu}
 use Rattle.calculus.specs.Answer.{Reason}
-use Rattle.calculus.specs.Words.{emit, first-part, second-part, levels, Scoped}
+use Rattle.calculus.specs.Words.{emit, first-part, second-part, levels, Scoped, Named}
 use Rattle.calculus.specs.Meaning.{Meaning, a-star, a-castdown, an-app, a-castup, a-lam, a-pi, a-mu, a-variable, nothing, meaning, binds}
 use Rattle.calculus.specs.Reading.{Begins, Unread, no-word, meaningless, too-deep, outside, in-first, in-second}
 use Rattle.calculus.specs.Scan.{means}
@@ -27,13 +27,14 @@ module _ (room binders p w : ℕ) (ws : List ℕ) (below : (b q : ℕ) (vs : Lis
       → ((rest : List ℕ) → emit t rest ≡ w ∷ rest)
       → levels t ≡ 1
       → Scoped binders t
+      → Named 0 t
       → Told (suc room) binders p (w ∷ ws)
-  no-part t written deep scoped =
-      inl (t, ws, record { written = sym (written ws); within = omega (arith, deep); scoped = scoped })
+  no-part t written deep scoped named =
+      inl (t, ws, record { written = sym (written ws); within = omega (arith, deep); scoped = scoped; named = named })
 
   -- a down cast has one part,
   one-part : meaning w ≡ a-castdown → Told (suc room) binders p (w ∷ ws)
-  unfolding emit levels Scoped means word binds
+  unfolding emit levels Scoped Named means word binds
   one-part h = first (below (binders + 0) (first-part p) ws)
     where
       first : Told room (binders + 0) (first-part p) ws → Told (suc room) binders p (w ∷ ws)
@@ -45,6 +46,7 @@ module _ (room binders p w : ℕ) (ws : List ℕ) (below : (b q : ℕ) (vs : Lis
               written = ap₂ _∷_ (sym (the-word w h tt)) (he .written);
               within = omega (arith, he .within);
               scoped = rw add-zero at (he .scoped);
+              named = he .named;
             },
           )
       first (inr (r, q, f)) = inr (r, q, in-first (ap binds h) f)
@@ -57,8 +59,9 @@ module _ (room binders p w : ℕ) (ws : List ℕ) (below : (b q : ℕ) (vs : Lis
       → ((a e : Term) (rest : List ℕ) → emit (c a e) rest ≡ word m ∷ emit a (emit e rest))
       → ((a e : Term) → levels (c a e) ≡ suc (max (levels a) (levels e)))
       → ((a e : Term) → Scoped binders a → Scoped (binders + k) e → Scoped binders (c a e))
+      → ((a e : Term) → Named 0 a → Named 0 e → Named 0 (c a e))
       → Told (suc room) binders p (w ∷ ws)
-  two-parts m c k h meant parts written deep scoped = first (below (binders + 0) (first-part p) ws)
+  two-parts m c k h meant parts written deep scoped named = first (below (binders + 0) (first-part p) ws)
     where
       bound : binds (meaning w) ≡ 0 ∷ k ∷ []
       bound = ap binds h ∙ parts
@@ -75,6 +78,7 @@ module _ (room binders p w : ℕ) (ws : List ℕ) (below : (b q : ℕ) (vs : Lis
               written = ap₂ _∷_ (sym (the-word w h meant)) (ha .written ∙ ap (emit a) (he .written)) ∙ sym (written a e after);
               within = omega (arith, deep a e, ha .within, he .within);
               scoped = scoped a e (rw add-zero at (ha .scoped)) (he .scoped);
+              named = named a e (ha .named) (he .named);
             },
           )
       second a rest ha (inr (r, q, f)) = inr (r, q, in-second bound ha f)
@@ -84,18 +88,18 @@ module _ (room binders p w : ℕ) (ws : List ℕ) (below : (b q : ℕ) (vs : Lis
       first (inr (r, q, f)) = inr (r, q, in-first bound f)
 
   told-word : (m : Meaning) → meaning w ≡ m → Told (suc room) binders p (w ∷ ws)
-  unfolding means word binds emit levels Scoped
-  told-word a-star h = no-part star (λ rest. ap (λ v. v ∷ rest) (the-word w h tt)) refl tt
+  unfolding means word binds emit levels Scoped Named
+  told-word a-star h = no-part star (λ rest. ap (λ v. v ∷ rest) (the-word w h tt)) refl tt tt
   told-word a-castdown h = one-part h
-  told-word an-app h = two-parts an-app app 0 h tt refl (λ a e k. refl) (λ a e. refl) (λ a e i j. (i, rw add-zero at j))
-  told-word a-castup h = two-parts a-castup castup 0 h tt refl (λ a e k. refl) (λ a e. refl) (λ a e i j. (i, rw add-zero at j))
-  told-word a-lam h = two-parts a-lam lam 1 h tt refl (λ a e k. refl) (λ a e. refl) (λ a e i j. (i, rw add-one at j))
-  told-word a-pi h = two-parts a-pi pi 1 h tt refl (λ a e k. refl) (λ a e. refl) (λ a e i j. (i, rw add-one at j))
-  told-word a-mu h = two-parts a-mu mu 1 h tt refl (λ a e k. refl) (λ a e. refl) (λ a e i j. (i, rw add-one at j))
+  told-word an-app h = two-parts an-app app 0 h tt refl (λ a e k. refl) (λ a e. refl) (λ a e i j. (i, rw add-zero at j)) (λ a e i j. (i, j))
+  told-word a-castup h = two-parts a-castup castup 0 h tt refl (λ a e k. refl) (λ a e. refl) (λ a e i j. (i, rw add-zero at j)) (λ a e i j. (i, j))
+  told-word a-lam h = two-parts a-lam lam 1 h tt refl (λ a e k. refl) (λ a e. refl) (λ a e i j. (i, rw add-one at j)) (λ a e i j. (i, j))
+  told-word a-pi h = two-parts a-pi pi 1 h tt refl (λ a e k. refl) (λ a e. refl) (λ a e i j. (i, rw add-one at j)) (λ a e i j. (i, j))
+  told-word a-mu h = two-parts a-mu mu 1 h tt refl (λ a e k. refl) (λ a e. refl) (λ a e i j. (i, rw add-one at j)) (λ a e i j. (i, j))
   told-word (a-variable i) h = on (decLe (suc i) binders)
     where
       on : Dec (i < binders) → Told (suc room) binders p (w ∷ ws)
-      on (yes l) = no-part (var i) (λ rest. ap (λ v. v ∷ rest) (the-word w h tt)) refl l
+      on (yes l) = no-part (var i) (λ rest. ap (λ v. v ∷ rest) (the-word w h tt)) refl l tt
       on (no n) = inr (_, _, outside {binders = binders} h (omega arith))
   told-word nothing h = inr (_, _, meaningless h)
 

@@ -7,7 +7,7 @@ use native.Mathlib.Omega.{arith}
 use mathlib.Core.Bool.{Bool, true, false, cond}
 use mathlib.Core.Path.{_≡_, refl, sym, _∙_, ap, ap₂, fun-ext}
 use lib.Dec.{ltb, eqb, leb·zero, leb·suc-zero, leb·suc-suc, eqb·suc-suc, eqb·suc-zero}
-use Rattle.calculus.specs.Term.{Term, var, star, app, lam, pi, castup, castdown, mu, raise, substitute}
+use Rattle.calculus.specs.Term.{Term, var, star, app, lam, pi, castup, castdown, mu, name, raise, substitute}
 use Rattle.calculus.proofs.Parallel.{traverse, lift-index, rename, lift, sub, rename-rename, sub-rename, rename-is-sub, sub-sub, sub-var, sub-moved}
 
 cond-under : {A B : Type 0} (f : A → B) (b : Bool) (x y : A) → f (cond b x y) ≡ cond b (f x) (f y)
@@ -36,6 +36,7 @@ raise-rename n c (pi a b) = ap₂ pi (raise-rename n c a) (raise-rename n (suc c
 raise-rename n c (castup a e) = ap₂ castup (raise-rename n c a) (raise-rename n c e)
 raise-rename n c (castdown e) = ap castdown (raise-rename n c e)
 raise-rename n c (mu a e) = ap₂ mu (raise-rename n c a) (raise-rename n (suc c) e ∙ ap (λ ρ. rename ρ e) (sym (raised-lift n c)))
+raise-rename n c (name i) = refl
 
 raise-all : (n : ℕ) (t : Term) → raise n 0 t ≡ rename (λ i. i + n) t
 unfolding raised
@@ -91,6 +92,7 @@ substitute-sub k s (pi a b) = ap₂ pi (substitute-sub k s a) (substitute-sub (s
 substitute-sub k s (castup a e) = ap₂ castup (substitute-sub k s a) (substitute-sub k s e)
 substitute-sub k s (castdown e) = ap castdown (substitute-sub k s e)
 substitute-sub k s (mu a e) = ap₂ mu (substitute-sub k s a) (substitute-sub (suc k) s e ∙ ap (λ σ. sub σ e) (sym (put-lift k s)))
+substitute-sub k s (name i) = refl
 
 -- `s` for index 0, and the rest lowered.
 unfoldable pub single : Term → ℕ → Term

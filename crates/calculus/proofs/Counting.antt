@@ -5,7 +5,8 @@ use mathlib.Core.Path.{_≡_, refl, sym, _∙_, ap, subst}
 use native.Mathlib.Nat.{suc-inj}
 use native.Mathlib.Omega.{arith}
 use Rattle.calculus.specs.Term.{Term}
-use Rattle.calculus.specs.Rules.{_⟶_}
+use Rattle.calculus.specs.Book.{View}
+use Rattle.calculus.specs.Rules.{_⊩_⟶_}
 use Rattle.calculus.specs.Kinds.{Kind, by-substitution, by-unfolding, by-cancellation, kind, Counts, counts, counting, total, Counted, counted-none, counted-more}
 use Rattle.calculus.specs.Run.{State, state-zero, state-suc}
 use Rattle.calculus.specs.Runs.{CountsOfStates}
@@ -29,24 +30,24 @@ swap by-cancellation by-unfolding c = refl
 swap by-cancellation by-cancellation c = refl
 
 -- A first step before a state,
-pub counted-after : {t t′ : Term} {c : Counts} {x : Term} (s : t ⟶ t′) → Counted t′ c x → Counted t (counting (kind s) c) x
+pub counted-after : {v : View} {t t′ : Term} {c : Counts} {x : Term} (s : v ⊩ t ⟶ t′) → Counted v t′ c x → Counted v t (counting (kind s) c) x
 counted-after s counted-none = counted-more counted-none s
-counted-after {t} s (counted-more {c = c} {y = y} h r) =
-    subst (λ d. Counted t d y) (swap (kind r) (kind s) c) (counted-more (counted-after s h) r)
+counted-after {v} {t} s (counted-more {c = c} {y = y} h r) =
+    subst (λ d. Counted v t d y) (swap (kind r) (kind s) c) (counted-more (counted-after s h) r)
 
 -- and the first step of a state.
-pub data First (t : Term) (c : Counts) (x : Term) : Type 0 where
-  first : {t′ : Term} {d : Counts} (s : t ⟶ t′) → Counted t′ d x → counting (kind s) d ≡ c → First t c x
+pub data First (v : View) (t : Term) (c : Counts) (x : Term) : Type 0 where
+  first : {t′ : Term} {d : Counts} (s : v ⊩ t ⟶ t′) → Counted v t′ d x → counting (kind s) d ≡ c → First v t c x
 
-pub first-step : {t : Term} {c : Counts} {x : Term} (n : ℕ) → total c ≡ suc n → Counted t c x → First t c x
+pub first-step : {v : View} {t : Term} {c : Counts} {x : Term} (n : ℕ) → total c ≡ suc n → Counted v t c x → First v t c x
 unfolding total
 first-step n e counted-none = absurd (omega arith)
 first-step n e (counted-more h s) = on h s
   where
-    later : {t : Term} {c : Counts} {x y : Term} → First t c x → (s : x ⟶ y) → First t (counting (kind s) c) y
+    later : {v : View} {t : Term} {c : Counts} {x y : Term} → First v t c x → (s : v ⊩ x ⟶ y) → First v t (counting (kind s) c) y
     later (first {d = d} r h e) s = first r (counted-more h s) (swap (kind r) (kind s) d ∙ ap (counting (kind s)) e)
 
-    on : {t : Term} {c : Counts} {x y : Term} → Counted t c x → (s : x ⟶ y) → First t (counting (kind s) c) y
+    on : {v : View} {t : Term} {c : Counts} {x y : Term} → Counted v t c x → (s : v ⊩ x ⟶ y) → First v t (counting (kind s) c) y
     on counted-none s = first s counted-none refl
     on (counted-more h r) s = later (on h r) s
 
@@ -60,27 +61,27 @@ none-counted c e =
 
 pub counts-of-states : CountsOfStates
 unfolding total
-counts-of-states t k x = (of-state, λ (c, e, h). subst (λ n. State t n x) e (to-state h))
+counts-of-states v t k x = (of-state, λ (c, e, h). subst (λ n. State v t n x) e (to-state h))
   where
-    of-state : {k : ℕ} {x : Term} → State t k x → (c : Counts) × (total c ≡ k) × Counted t c x
+    of-state : {k : ℕ} {x : Term} → State v t k x → (c : Counts) × (total c ≡ k) × Counted v t c x
     of-state state-zero = (counts 0 0 0, refl, counted-none)
     of-state (state-suc h s) =
         let (c, e, d) = of-state h in
         (counting (kind s) c, total-counting (kind s) c ∙ ap suc e, counted-more d s)
 
-    to-state : {c : Counts} {x : Term} → Counted t c x → State t (total c) x
+    to-state : {c : Counts} {x : Term} → Counted v t c x → State v t (total c) x
     to-state counted-none = state-zero
     to-state (counted-more {c = c} {y = y} h s) =
-        subst (λ n. State t n y) (sym (total-counting (kind s) c)) (state-suc (to-state h) s)
+        subst (λ n. State v t n y) (sym (total-counting (kind s) c)) (state-suc (to-state h) s)
 
 -- A first step before a state, and the first step of a state, where the steps are not counted.
-pub state-after : {t t′ : Term} {k : ℕ} {x : Term} → t ⟶ t′ → State t′ k x → State t (suc k) x
+pub state-after : {v : View} {t t′ : Term} {k : ℕ} {x : Term} → v ⊩ t ⟶ t′ → State v t′ k x → State v t (suc k) x
 state-after s state-zero = state-suc state-zero s
 state-after s (state-suc h r) = state-suc (state-after s h) r
 
-pub state-first : {t : Term} (k : ℕ) {x : Term} → State t (suc k) x → (t′ : Term) × (t ⟶ t′) × State t′ k x
-state-first {t} k {x} h = let (c, e, d) = counts-of-states t (suc k) x .0 h in on e (first-step k e d)
+pub state-first : {v : View} {t : Term} (k : ℕ) {x : Term} → State v t (suc k) x → (t′ : Term) × (v ⊩ t ⟶ t′) × State v t′ k x
+state-first {v} {t} k {x} h = let (c, e, d) = counts-of-states v t (suc k) x .0 h in on e (first-step k e d)
   where
-    on : {c : Counts} → total c ≡ suc k → First t c x → (t′ : Term) × (t ⟶ t′) × State t′ k x
+    on : {c : Counts} → total c ≡ suc k → First v t c x → (t′ : Term) × (v ⊩ t ⟶ t′) × State v t′ k x
     on e (first {t′} {d} s h p) =
-        (t′, s, counts-of-states t′ k x .1 (d, suc-inj (sym (total-counting (kind s) d) ∙ ap total p ∙ e), h))
+        (t′, s, counts-of-states v t′ k x .1 (d, suc-inj (sym (total-counting (kind s) d) ∙ ap total p ∙ e), h))

@@ -8,12 +8,13 @@ use native.Mathlib.Decide.{decLe}
 use native.Mathlib.Nat.{le-refl, le-trans}
 use native.Mathlib.Omega.{arith}
 use lib.Dec.{lit≤}
-use Rattle.calculus.specs.Term.{Term, var, star, app, lam, pi, castup, castdown, mu, size, raise, substitute}
-use Rattle.calculus.specs.Answer.{Reason, Answer, refused, _>>=_, _>>_, require, number, not-star, wrong-argument, wrong-cast, wrong-recursion, over-limit}
+use Rattle.calculus.specs.Term.{Term, var, star, app, lam, pi, castup, castdown, mu, name, size, raise, substitute}
+use Rattle.calculus.specs.Answer.{Reason, Answer, ok, refused, _>>=_, _>>_, require, number, not-star, wrong-argument, wrong-cast, wrong-recursion, over-limit}
 use Rattle.calculus.specs.Words.{first-part, second-part}
+use Rattle.calculus.specs.Book.{View}
 use Rattle.calculus.specs.Rules.{Context}
-use Rattle.calculus.specs.Step.{Next, value, stuck, next, step}
-use Rattle.calculus.specs.Infer.{annotation, same, measure, product, stepped, infer}
+use Rattle.calculus.specs.Step.{Next, value, stuck, next}
+use Rattle.calculus.specs.Infer.{annotation, stored, same, measure, product, stepped, infer}
 use Rattle.calculus.proofs.Says.{Says, says-ok, says-refused, By}
 use Rattle.calculus.proofs.Testing.{fitting, over}
 
@@ -65,10 +66,11 @@ module _ {n : ℕ} (p : ℕ) (here : p ≤ n) where
       on (castup a e) = says-refused (lit≤ tt, lit≤ tt, here)
       on (castdown e) = says-refused (lit≤ tt, lit≤ tt, here)
       on (mu a e) = says-refused (lit≤ tt, lit≤ tt, here)
+      on (name i) = says-refused (lit≤ tt, lit≤ tt, here)
 
-  steps : (τ : Term) → Keeps n (stepped p (step τ)) (stepped p (step τ))
+  steps : (x : Next) → Keeps n (stepped p x) (stepped p x)
   unfolding stepped number
-  steps τ = kept (on (step τ))
+  steps x = kept (on x)
     where
       on : (x : Next) → Numbered n (stepped p x)
       on value = says-refused (lit≤ tt, lit≤ tt, here)
@@ -87,8 +89,9 @@ module _ {n : ℕ} (p : ℕ) (here : p ≤ n) where
           (over {L = L} p τ (omega arith), over {L = L′} p τ (omega arith))
           (kept (says-refused (lit≤ tt, lit≤ tt, here)))
 
-module _ {L L′ n : ℕ} (more : L ≤ L′) where
-  pub infer-keeps : (Γ : Context) (p : ℕ) (e : Term) → p + size e ≤ n → Keeps n (infer L Γ p e) (infer L′ Γ p e)
+-- By any step, and with any stored types.
+module _ (T : View) (step : Term → Next) {L L′ n : ℕ} (more : L ≤ L′) where
+  pub infer-keeps : (Γ : Context) (p : ℕ) (e : Term) → p + size e ≤ n → Keeps n (infer T step L Γ p e) (infer T step L′ Γ p e)
   unfolding infer _>>_ size number
   infer-keeps Γ p (var i) h = fits p (omega arith) more (annotation Γ i)
   infer-keeps Γ p star h = fits p (omega arith) more star
@@ -113,13 +116,13 @@ module _ {L L′ n : ℕ} (more : L ≤ L′) where
       then (infer-keeps Γ (first-part p) a (omega arith)) λ σ.
       then (equal (first-part p) (omega arith) not-star (lit≤ tt) (lit≤ tt) σ star) λ _.
       then (infer-keeps Γ (second-part p a) e (omega arith)) λ τ.
-      then (steps p (omega arith) a) λ a′.
+      then (steps p (omega arith) (step a)) λ a′.
       then (fits p (omega arith) more a′) λ _.
       then (equal p (omega arith) wrong-cast (lit≤ tt) (lit≤ tt) a′ τ) λ _.
       fits p (omega arith) more a
   infer-keeps Γ p (castdown e) h =
       then (infer-keeps Γ (first-part p) e (omega arith)) λ τ.
-      then (steps p (omega arith) τ) λ τ′.
+      then (steps p (omega arith) (step τ)) λ τ′.
       fits p (omega arith) more τ′
   infer-keeps Γ p (mu a e) h =
       then (infer-keeps Γ (first-part p) a (omega arith)) λ σ.
@@ -127,6 +130,35 @@ module _ {L L′ n : ℕ} (more : L ≤ L′) where
       then (infer-keeps (a ∷ Γ) (second-part p a) e (omega arith)) λ τ.
       then (equal p (omega arith) wrong-recursion (lit≤ tt) (lit≤ tt) τ (raise 1 0 a)) λ _.
       fits p (omega arith) more a
+  infer-keeps Γ p (name i) h = fits p (omega arith) more (stored (T i))
 
-pub infer-numbered : (L : ℕ) (Γ : Context) (p : ℕ) (e : Term) → Numbered (p + size e) (infer L Γ p e)
-infer-numbered L Γ p e = larger (infer-keeps (le-refl L) Γ p e (le-refl _))
+pub infer-numbered : (T : View) (step : Term → Next) (L : ℕ) (Γ : Context) (p : ℕ) (e : Term) → Numbered (p + size e) (infer T step L Γ p e)
+infer-numbered T step L Γ p e = larger (infer-keeps T step (le-refl L) Γ p e (le-refl _))
+
+-- A type that is answered fits the limit: the last test of every node measures it.
+abbrev pub Fitting : ℕ → Answer Term → Type 0
+Fitting L x = Says (λ τ. size τ ≤ L) (λ r p. Unit {0}) x
+
+measured : (L p : ℕ) (τ : Term) → Fitting L (measure L p τ)
+measured L p τ = on (decLe (size τ) L)
+  where
+    on : Dec (size τ ≤ L) → Fitting L (measure L p τ)
+    on (yes h) = rw (fitting p τ h) (says-ok h)
+    on (no h) = rw (over {L = L} p τ (omega arith)) (says-refused tt)
+
+last : {A : Type 0} {L : ℕ} (x : Answer A) {f : A → Answer Term} → ((a : A) → Fitting L (f a)) → Fitting L (x >>= f)
+unfolding _>>=_
+last (ok a) h = h a
+last (refused r p) h = says-refused tt
+
+pub infer-fits : (T : View) (step : Term → Next) (L : ℕ) (Γ : Context) (p : ℕ) (e : Term) → Fitting L (infer T step L Γ p e)
+unfolding infer _>>_
+infer-fits T step L Γ p (var i) = measured L p _
+infer-fits T step L Γ p star = measured L p _
+infer-fits T step L Γ p (app f u) = last _ λ τ. last _ λ (a, b). last _ λ σ. last _ λ _. measured L p _
+infer-fits T step L Γ p (lam a e) = last _ λ σ. last _ λ _. last _ λ b. measured L p _
+infer-fits T step L Γ p (pi a b) = last _ λ σ. last _ λ _. last _ λ τ. last _ λ _. measured L p _
+infer-fits T step L Γ p (castup a e) = last _ λ σ. last _ λ _. last _ λ τ. last _ λ a′. last _ λ _. last _ λ _. measured L p _
+infer-fits T step L Γ p (castdown e) = last _ λ τ. last _ λ τ′. measured L p _
+infer-fits T step L Γ p (mu a e) = last _ λ σ. last _ λ _. last _ λ τ. last _ λ _. measured L p _
+infer-fits T step L Γ p (name i) = measured L p _

@@ -12,12 +12,14 @@ use lib.Dec.{lit≤}
 use lib.ListN.{length, take}
 use Rattle.calculus.specs.Term.{Term, size}
 use Rattle.calculus.specs.Answer.{Answer, ok, refused, Reason, _>>=_, number, over-limit}
+use Rattle.calculus.specs.Book.{Book, View, types, seen}
 use Rattle.calculus.specs.Rules.{Context}
-use Rattle.calculus.specs.Limit.{_⊢⟨_⟩_⦂_}
-use Rattle.calculus.specs.Failing.{Fails, star-over, var-over, app-function, app-not-product, app-argument, app-mismatch, app-over, lam-annotation, lam-not-star, lam-body, lam-over, pi-domain, pi-domain-not-star, pi-codomain, pi-codomain-not-star, pi-over, castup-annotation, castup-not-star, castup-body, castup-rests, castup-step-over, castup-mismatch, castup-over, castdown-body, castdown-rests, castdown-over, mu-annotation, mu-not-star, mu-body, mu-mismatch, mu-over}
+use Rattle.calculus.specs.Limit.{_∣_∣_⊢⟨_⟩_⦂_}
+use Rattle.calculus.specs.Failing.{Fails, star-over, var-over, app-function, app-not-product, app-argument, app-mismatch, app-over, lam-annotation, lam-not-star, lam-body, lam-over, pi-domain, pi-domain-not-star, pi-codomain, pi-codomain-not-star, pi-over, castup-annotation, castup-not-star, castup-body, castup-rests, castup-step-over, castup-mismatch, castup-over, castdown-body, castdown-rests, castdown-over, mu-annotation, mu-not-star, mu-body, mu-mismatch, mu-over, name-over}
 use Rattle.calculus.specs.Scan.{read}
+use Rattle.calculus.specs.Step.{step}
 use Rattle.calculus.specs.Infer.{infer}
-use Rattle.calculus.specs.Outcomes.{largest-limit, check-room, checked, check-by, check}
+use Rattle.calculus.specs.Outcomes.{largest-limit, check-room, checked, check-by, check-over}
 use Rattle.calculus.specs.Checks.{Allowed, limit-refused, work-refused, output-refused, SameType}
 use Rattle.calculus.specs.MoreLimit.{Settled, told, Admitted, MoreLimit, Over, SettledOrOver, TellsAll, SameOrOver, LessLimit, MoreLimitByRules, Judged, OverLimitBecomes}
 use Rattle.calculus.proofs.Says.{says-ok, says-refused, ok-not-refused}
@@ -28,24 +30,24 @@ use Rattle.calculus.proofs.CheckDemand.{admitted, check-answer}
 use Rattle.calculus.proofs.Acceptance.{front-of-begun}
 
 -- A check is admitted, or refused by one of 1–3.
-abbrev Admission : List ℕ → ℕ → List ℕ → List ℕ → Type 0
-Admission ws L W O = Admitted L W O ⊎ ((r : Reason) × (p : ℕ) × (check ws L W O .answer ≡ refused r p) × (number r ≤ 3))
+abbrev Admission : Book → ℕ → List ℕ → ℕ → List ℕ → List ℕ → Type 0
+Admission B o ws L W O = Admitted L W O ⊎ ((r : Reason) × (p : ℕ) × (check-over B o ws L W O .answer ≡ refused r p) × (number r ≤ 3))
 
-admission : (ws : List ℕ) (L : ℕ) (W O : List ℕ) → Admission ws L W O
+admission : (B : Book) (o : ℕ) (ws : List ℕ) (L : ℕ) (W O : List ℕ) → Admission B o ws L W O
 unfolding number
-admission ws L W O = on (Dec·and (decLe 1 L) (decLe L largest-limit)) (decLe (check-room L) (length W)) (decLe L (length O))
+admission B o ws L W O = on (Dec·and (decLe 1 L) (decLe L largest-limit)) (decLe (check-room L) (length W)) (decLe L (length O))
   where
-    on : Dec (Allowed L) → Dec (check-room L ≤ length W) → Dec (L ≤ length O) → Admission ws L W O
-    on (yes a) (yes w) (yes o) = inl (a, w, o)
-    on (yes a) (yes w) (no o) = inr (_, _, ap (λ c. c .answer) (check-answer ws L W O (output-refused a w (omega arith))), lit≤ tt)
-    on (yes a) (no w) o = inr (_, _, ap (λ c. c .answer) (check-answer ws L W O (work-refused a (omega arith))), lit≤ tt)
-    on (no n) w o = inr (_, _, ap (λ c. c .answer) (check-answer ws L W O (limit-refused n)), lit≤ tt)
+    on : Dec (Allowed L) → Dec (check-room L ≤ length W) → Dec (L ≤ length O) → Admission B o ws L W O
+    on (yes a) (yes w) (yes k) = inl (a, w, k)
+    on (yes a) (yes w) (no k) = inr (_, _, ap (λ c. c .answer) (check-answer B o ws L W O (output-refused a w (omega arith))), lit≤ tt)
+    on (yes a) (no w) k = inr (_, _, ap (λ c. c .answer) (check-answer B o ws L W O (work-refused a (omega arith))), lit≤ tt)
+    on (no n) w k = inr (_, _, ap (λ c. c .answer) (check-answer B o ws L W O (limit-refused n)), lit≤ tt)
 
-admits : (ws : List ℕ) (L : ℕ) (W O : List ℕ) → Settled (check ws L W O .answer) → Admitted L W O
+admits : (B : Book) (o : ℕ) (ws : List ℕ) (L : ℕ) (W O : List ℕ) → Settled (check-over B o ws L W O .answer) → Admitted L W O
 unfolding Settled
-admits ws L W O s = on (admission ws L W O)
+admits B o ws L W O s = on (admission B o ws L W O)
   where
-    on : Admission ws L W O → Admitted L W O
+    on : Admission B o ws L W O → Admitted L W O
     on (inl a) = a
     on (inr (r, p, e, u)) = absurd (omega (arith, (rw e at s) .0, u))
 
@@ -63,12 +65,12 @@ inferred-settled L W O (says-refused {r} {p} (l, u, _)) = on (ℕ-discrete (numb
 
 pub settled-or-over : SettledOrOver
 unfolding check-by checked Settled _>>=_
-settled-or-over ws L W O (a, w, o) = rw (admitted ws L W O a w o) (on (read ws) refl)
+settled-or-over B o ws L W O (a, w, k) = rw (admitted B o ws L W O a w k) (on (read ws) refl)
   where
     on : (x : Answer Term)
         → read ws ≡ x
-        → Settled (checked (check-room L) W O (x >>= λ t. infer L [] 0 t) .answer) ⊎ Over (checked (check-room L) W O (x >>= λ t. infer L [] 0 t))
-    on (ok t) e = inferred-settled L W O (infer-numbered L [] 0 t)
+        → Settled (checked (check-room L) W O (x >>= λ t. infer (types B) (step (seen o B)) L [] 0 t) .answer) ⊎ Over (checked (check-room L) W O (x >>= λ t. infer (types B) (step (seen o B)) L [] 0 t))
+    on (ok t) e = inferred-settled L W O (infer-numbered (types B) (step (seen o B)) L [] 0 t)
     on (refused r p) e =
         let (l, u, _) = misread-numbers (refused-misread ws r p e) in
         inl (omega (arith, l), λ f. omega (arith, u, f))
@@ -89,7 +91,7 @@ tells-all c c′ e = on (c .answer) (c′ .answer) e
 
 pub less-limit : LessLimit
 unfolding check-by checked told _>>=_
-less-limit ws L L′ W W′ O O′ more (a, w, o) (a′, w′, o′) = rw (admitted ws L W O a w o, admitted ws L′ W′ O′ a′ w′ o′) (on (read ws))
+less-limit B o ws L L′ W W′ O O′ more (a, w, k) (a′, w′, k′) = rw (admitted B o ws L W O a w k, admitted B o ws L′ W′ O′ a′ w′ k′) (on (read ws))
   where
     same : (x : Answer Term) → told (checked (check-room L) W O x) ≡ told (checked (check-room L′) W′ O′ x)
     same (ok τ) = ap (λ ws. ok (size τ, ws)) (front-of-begun τ O ∙ sym (front-of-begun τ O′))
@@ -99,42 +101,42 @@ less-limit ws L L′ W W′ O O′ more (a, w, o) (a′, w′, o′) = rw (admit
     inferred (kept {x} h) = inl (same x)
     inferred (sixteen {p} h) = inr (p, refl)
 
-    on : (x : Answer Term) → SameOrOver (checked (check-room L) W O (x >>= λ t. infer L [] 0 t)) (checked (check-room L′) W′ O′ (x >>= λ t. infer L′ [] 0 t))
-    on (ok t) = inferred (infer-keeps more [] 0 t (le-refl _))
+    on : (x : Answer Term) → SameOrOver (checked (check-room L) W O (x >>= λ t. infer (types B) (step (seen o B)) L [] 0 t)) (checked (check-room L′) W′ O′ (x >>= λ t. infer (types B) (step (seen o B)) L′ [] 0 t))
+    on (ok t) = inferred (infer-keeps (types B) (step (seen o B)) more [] 0 t (le-refl _))
     on (refused r p) = inl (same (refused r p))
 
 pub more-limit : MoreLimit
 unfolding Settled number
-more-limit ws L L′ W W′ O O′ s more a′ = on (less-limit ws L L′ W W′ O O′ more (admits ws L W O s) a′)
+more-limit B o ws L L′ W W′ O O′ s more a′ = on (less-limit B o ws L L′ W W′ O O′ more (admits B o ws L W O s) a′)
   where
-    on : SameOrOver (check ws L W O) (check ws L′ W′ O′) → told (check ws L′ W′ O′) ≡ told (check ws L W O)
+    on : SameOrOver (check-over B o ws L W O) (check-over B o ws L′ W′ O′) → told (check-over B o ws L′ W′ O′) ≡ told (check-over B o ws L W O)
     on (inl e) = sym e
     on (inr (p, e)) = absurd ((rw e at s) .1 refl)
 
 pub same-type : SameType
 unfolding Settled
-same-type ws L L′ W W′ O O′ n n′ e e′ =
-    let (f, g) = tells-all (check ws L W O) (check ws L′ W′ O′) (on (decLe L L′)) in
+same-type B o ws L L′ W W′ O O′ n n′ e e′ =
+    let (f, g) = tells-all (check-over B o ws L W O) (check-over B o ws L′ W′ O′) (on (decLe L L′)) in
     let same : n ≡ n′ = cc (e, e′, f) in
-    (same, g n e ∙ ap (λ k. take k (check ws L′ W′ O′ .output)) same)
+    (same, g n e ∙ ap (λ k. take k (check-over B o ws L′ W′ O′ .output)) same)
   where
-    settled : Settled (check ws L W O .answer)
+    settled : Settled (check-over B o ws L W O .answer)
     settled = rw e tt
 
-    settled′ : Settled (check ws L′ W′ O′ .answer)
+    settled′ : Settled (check-over B o ws L′ W′ O′ .answer)
     settled′ = rw e′ tt
 
-    on : Dec (L ≤ L′) → told (check ws L W O) ≡ told (check ws L′ W′ O′)
-    on (yes h) = sym (more-limit ws L L′ W W′ O O′ settled h (admits ws L′ W′ O′ settled′))
-    on (no h) = more-limit ws L′ L W′ W O′ O settled′ (omega arith) (admits ws L W O settled)
+    on : Dec (L ≤ L′) → told (check-over B o ws L W O) ≡ told (check-over B o ws L′ W′ O′)
+    on (yes h) = sym (more-limit B o ws L L′ W W′ O O′ settled h (admits B o ws L′ W′ O′ settled′))
+    on (no h) = more-limit B o ws L′ L W′ W O′ O settled′ (omega arith) (admits B o ws L W O settled)
 
-module _ {L L′ : ℕ} (more : L ≤ L′) where
-  within : {Γ : Context} {e τ : Term} → Γ ⊢⟨ L ⟩ e ⦂ τ → Γ ⊢⟨ L′ ⟩ e ⦂ τ
+module _ {B : Book} {v : View} {L L′ : ℕ} (more : L ≤ L′) where
+  within : {Γ : Context} {e τ : Term} → B ∣ v ∣ Γ ⊢⟨ L ⟩ e ⦂ τ → B ∣ v ∣ Γ ⊢⟨ L′ ⟩ e ⦂ τ
   within d = record { typed = d .typed; fits = λ σ m. le-trans (d .fits σ m) more }
 
-  fails : {Γ : Context} {p q : ℕ} {e : Term} {r : Reason} → r ≢ over-limit → Fails L Γ p e r q → Fails L′ Γ p e r q
+  fails : {Γ : Context} {p q : ℕ} {e : Term} {r : Reason} → r ≢ over-limit → Fails B v L Γ p e r q → Fails B v L′ Γ p e r q
   fails n (star-over h) = absurd (n refl)
-  fails n (var-over v h) = absurd (n refl)
+  fails n (var-over x h) = absurd (n refl)
   fails n (app-function x) = app-function (fails n x)
   fails n (app-not-product hf m) = app-not-product (within hf) m
   fails n (app-argument hf x) = app-argument (within hf) (fails n x)
@@ -164,9 +166,10 @@ module _ {L L′ : ℕ} (more : L ≤ L′) where
   fails n (mu-body ha x) = mu-body (within ha) (fails n x)
   fails n (mu-mismatch ha he m) = mu-mismatch (within ha) (within he) m
   fails n (mu-over ha he h) = absurd (n refl)
+  fails n (name-over k h) = absurd (n refl)
 
 pub more-limit-by-rules : MoreLimitByRules
-more-limit-by-rules L L′ Γ e more = (λ τ. within more, λ p q r n. fails more n)
+more-limit-by-rules B v L L′ Γ e more = (λ τ. within more, λ p q r n. fails more n)
 
 -- A refusal by one of 1–9 is none by 16.
 not-sixteen : {a : Answer ℕ} {r : Reason} {p q : ℕ} → a ≡ refused r q → number r ≤ 9 → a ≡ refused over-limit p → ⊥
@@ -181,15 +184,15 @@ judged L W O (says-refused (l, u, _)) = (l, u)
 
 pub over-limit-becomes : OverLimitBecomes
 unfolding check-by checked number _>>=_
-over-limit-becomes ws L L′ W W′ O O′ (p, e) (a′, w′, o′) = by (admission ws L W O)
+over-limit-becomes B o ws L L′ W W′ O O′ (p, e) (a′, w′, k′) = by (admission B o ws L W O)
   where
     at : (x : Answer Term)
         → read ws ≡ x
-        → checked (check-room L) W O (x >>= λ t. infer L [] 0 t) .answer ≡ refused over-limit p
-        → Judged (checked (check-room L′) W′ O′ (x >>= λ t. infer L′ [] 0 t) .answer)
-    at (ok t) m e = judged L′ W′ O′ (infer-numbered L′ [] 0 t)
+        → checked (check-room L) W O (x >>= λ t. infer (types B) (step (seen o B)) L [] 0 t) .answer ≡ refused over-limit p
+        → Judged (checked (check-room L′) W′ O′ (x >>= λ t. infer (types B) (step (seen o B)) L′ [] 0 t) .answer)
+    at (ok t) m e = judged L′ W′ O′ (infer-numbered (types B) (step (seen o B)) L′ [] 0 t)
     at (refused r q) m e = absurd (not-sixteen refl (misread-numbers (refused-misread ws r q m) .1) e)
 
-    by : Admission ws L W O → Judged (check ws L′ W′ O′ .answer)
-    by (inl (a, w, o)) = rw (admitted ws L′ W′ O′ a′ w′ o′) (at (read ws) refl (rw (admitted ws L W O a w o) at e))
+    by : Admission B o ws L W O → Judged (check-over B o ws L′ W′ O′ .answer)
+    by (inl (a, w, k)) = rw (admitted B o ws L′ W′ O′ a′ w′ k′) (at (read ws) refl (rw (admitted B o ws L W O a w k) at e))
     by (inr (r, q, e′, u)) = absurd (not-sixteen e′ (omega (arith, u)) e)

@@ -2,7 +2,7 @@
 -- term, which under a binder keeps index 0 and moves the rest by one; so two walks in a row are one walk with the composed function.
 use Prim.Native.Nat.{ℕ, zero, suc}
 use mathlib.Core.Path.{_≡_, refl, sym, _∙_, ap, ap₂, fun-ext}
-use Rattle.calculus.specs.Term.{Term, var, star, app, lam, pi, castup, castdown, mu}
+use Rattle.calculus.specs.Term.{Term, var, star, app, lam, pi, castup, castdown, mu, name}
 
 -- The walk: `v` makes a term of what stands for a variable, and `l` takes the function under a binder.
 unfoldable pub traverse : {A : Type 0} → (A → Term) → ((ℕ → A) → ℕ → A) → (ℕ → A) → Term → Term
@@ -14,6 +14,7 @@ traverse v l f (pi a b) = pi (traverse v l f a) (traverse v l (l f) b)
 traverse v l f (castup a e) = castup (traverse v l f a) (traverse v l f e)
 traverse v l f (castdown e) = castdown (traverse v l f e)
 traverse v l f (mu a e) = mu (traverse v l f a) (traverse v l (l f) e)
+traverse v l f (name i) = name i
 
 unfoldable pub lift-index : (ℕ → ℕ) → ℕ → ℕ
 lift-index ρ zero = zero
@@ -47,6 +48,7 @@ module _ {A B C : Type 0} (u : A → Term) (k : (ℕ → A) → ℕ → A) (v : 
   fusion c (castup a e) f g h p = ap₂ castup (fusion c a f g h p) (fusion c e f g h p)
   fusion c (castdown e) f g h p = ap castdown (fusion c e f g h p)
   fusion c (mu a e) f g h p = ap₂ mu (fusion c a f g h p) (fusion c e (k f) (l g) (m h) (c f g h p))
+  fusion c (name i) f g h p = refl
 
 pub rename-rename : (ρ ξ : ℕ → ℕ) (t : Term) → rename ρ (rename ξ t) ≡ rename (λ i. ρ (ξ i)) t
 unfolding rename traverse lift-index
@@ -107,6 +109,7 @@ sub-var (pi a b) = ap₂ pi (sub-var a) (ap (λ σ. sub σ b) lift-var ∙ sub-v
 sub-var (castup a e) = ap₂ castup (sub-var a) (sub-var e)
 sub-var (castdown e) = ap castdown (sub-var e)
 sub-var (mu a e) = ap₂ mu (sub-var a) (ap (λ σ. sub σ e) lift-var ∙ sub-var e)
+sub-var (name i) = refl
 
 -- A renaming is a substitution of variables.
 pub rename-is-sub : (ρ : ℕ → ℕ) (t : Term) → rename ρ t ≡ sub (λ i. var (ρ i)) t

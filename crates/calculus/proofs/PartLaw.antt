@@ -8,7 +8,7 @@ use mathlib.Core.Path.{_≡_, refl, sym, ap, _∙_, subst}
 use native.Mathlib.Omega.{arith}
 use lib.ListN.{length, take, drop, length-append}
 use lib.Seq.{take-at, drop-at}
-use Rattle.calculus.specs.Term.{Term, var, star, app, lam, pi, castup, castdown, mu, size}
+use Rattle.calculus.specs.Term.{Term, var, star, app, lam, pi, castup, castdown, mu, name, size}
 use Rattle.calculus.specs.Answer.{Answer, ok, refused}
 use Rattle.calculus.specs.Words.{emit, words, first-part, second-part, Codes}
 use Rattle.calculus.specs.Scan.{read}
@@ -59,6 +59,7 @@ has (pi a b) k = two-parts k refl pi-1 pi-2
 has (castup a e) k = two-parts k refl castup-1 castup-2
 has (castdown e) k = one-part k refl castdown-1
 has (mu a e) k = two-parts k refl mu-1 mu-2
+has (name i) k = inr refl
 
 found-answer : {ws : List ℕ} {k : ℕ} {f : Found} → Finds ws k f → found ws k ≡ f
 unfolding found found-in
@@ -78,7 +79,7 @@ found-answer {ws} {k} (no-closed-term n) = on (read ws) refl
 finds : (ws : List ℕ) (k : ℕ) → (f : Found) × Finds ws k f
 finds ws k = by-reading (coded-or-misread ws)
   where
-    by-part : {t : Term} → Codes ws t → Has t k → (f : Found) × Finds ws k f
+    by-part : {t : Term} → Codes 0 ws t → Has t k → (f : Found) × Finds ws k f
     by-part c (inl (e, p, h)) = (_, the-part c h)
     by-part c (inr none) =
         (_, no-such-part c λ e p h. omega (arith, size-positive e, ap (λ f. f .extent) (sym (nth-found h) ∙ none)))
@@ -131,7 +132,7 @@ pub part-words : PartWords
 unfolding part
 part-words ws k = (there, λ none. rw none refl)
   where
-    there : (t e : Term) (p : ℕ) → Codes ws t → PartAt t k e p → take (found ws k .extent) (drop (found ws k .start) ws) ≡ words e
+    there : (t e : Term) (p : ℕ) → Codes 0 ws t → PartAt t k e p → take (found ws k .extent) (drop (found ws k .start) ws) ≡ words e
     there t e p c h =
         let a = around h in
         rw

@@ -33,12 +33,12 @@ unfolding read require _>>_ _>>=_
 scanned ws (h, k) = rw (le-leb 1 (length ws) h, le-leb (length ws) longest k) refl
 
 through : {ws rest : List ℕ} {t : Term} → Begins deepest 0 ws t rest → Reads whole t
-through {t} b = scan-term t whole (record { scoped = b .scoped; within = b .within }) (omega (arith, b .within))
+through {t} b = scan-term t whole (record { scoped = b .scoped; within = b .within; named = b .named }) (omega (arith, b .within))
 
-pub read-words : (t : Term) → Readable t → read (words t) ≡ ok t
+pub read-words : (t : Term) → Readable 0 t → read (words t) ≡ ok t
 unfolding words scan the-first _>>=_
 read-words t c =
-    let b : Begins deepest 0 (words t) t [] = record { written = refl; within = c .shallow; scoped = c .closed } in
+    let b : Begins deepest 0 (words t) t [] = record { written = refl; within = c .shallow; scoped = c .closed; named = c .named } in
     let sized : Sized (words t) = (rw (words-length t) (size-positive t), rw (words-length t) (c .short)) in
     scanned (words t) sized ∙ rw (through b [] [] 0) refl
 
@@ -51,7 +51,7 @@ misread-refused {ws} (word-over {t} {w} {rest} s b) =
 
 -- What a list is: the words of a readable term, or misread.
 abbrev pub Read : List ℕ → Type 0
-Read ws = ((t : Term) × Codes ws t) ⊎ ((r : Reason) × (p : ℕ) × Misread ws r p)
+Read ws = ((t : Term) × Codes 0 ws t) ⊎ ((r : Reason) × (p : ℕ) × Misread ws r p)
 
 pub coded-or-misread : (ws : List ℕ) → Read ws
 unfolding words
@@ -65,6 +65,7 @@ coded-or-misread ws = by-length (Dec·and (decLe 1 (length ws)) (decLe (length w
             b .written,
             record {
               closed = b .scoped;
+              named = b .named;
               short = subst (λ n. n ≤ longest) (ap length (b .written) ∙ words-length t) (s .1);
               shallow = b .within;
             },
@@ -77,17 +78,17 @@ coded-or-misread ws = by-length (Dec·and (decLe 1 (length ws)) (decLe (length w
     by-length (yes s) = by-reading s (told deepest 0 0 ws)
     by-length (no n) = inr (_, _, wrong-length n)
 
-pub codes-read : {ws : List ℕ} {t : Term} → Codes ws t → read ws ≡ ok t
+pub codes-read : {ws : List ℕ} {t : Term} → Codes 0 ws t → read ws ≡ ok t
 codes-read {t} h = ap read (h .0) ∙ read-words t (h .1)
 
-pub coded-not-misread : {ws : List ℕ} {t : Term} {r : Reason} {p : ℕ} → Codes ws t → Misread ws r p → ⊥
+pub coded-not-misread : {ws : List ℕ} {t : Term} {r : Reason} {p : ℕ} → Codes 0 ws t → Misread ws r p → ⊥
 coded-not-misread h m = ok-not-refused (sym (codes-read h) ∙ misread-refused m)
 
-pub read-sound : (ws : List ℕ) (t : Term) → read ws ≡ ok t → Codes ws t
+pub read-sound : (ws : List ℕ) (t : Term) → read ws ≡ ok t → Codes 0 ws t
 read-sound ws t e = on (coded-or-misread ws)
   where
-    on : Read ws → Codes ws t
-    on (inl (s, h)) = subst (Codes ws) (cc (e, codes-read h)) h
+    on : Read ws → Codes 0 ws t
+    on (inl (s, h)) = subst (Codes 0 ws) (cc (e, codes-read h)) h
     on (inr (r, p, m)) = absurd (ok-not-refused (sym e ∙ misread-refused m))
 
 pub refused-misread : (ws : List ℕ) (r : Reason) (p : ℕ) → read ws ≡ refused r p → Misread ws r p

@@ -7,6 +7,8 @@ use native.Mathlib.Omega.{arith}
 use lib.ListN.{length}
 use Rattle.calculus.specs.Term.{Term}
 use Rattle.calculus.specs.Answer.{Reason, Answer, ok, refused, _>>=_, _>>_, require}
+use Rattle.calculus.specs.Book.{Book, bodies}
+use Rattle.calculus.specs.Step.{step}
 use Rattle.calculus.specs.Run.{Ended, run-from}
 use Rattle.calculus.specs.Outcomes.{check-room, run-room, verdict, checked, check-by, grant, course, ran, run-by}
 use Rattle.calculus.specs.Checks.{work-refused}
@@ -18,9 +20,9 @@ use Rattle.calculus.proofs.CheckDemand.{check-answer}
 use Rattle.calculus.proofs.RunDemand.{run-answer}
 
 module _ (room room′ : ℕ) (W : List ℕ) (h : room ≤ length W) (h′ : room′ ≤ length W) where
-  same-verdict : (ws : List ℕ) (L : ℕ) (O : List ℕ) → verdict room ws L W O ≡ verdict room′ ws L W O
+  same-verdict : (B : Book) (o : ℕ) (ws : List ℕ) (L : ℕ) (O : List ℕ) → verdict room B o ws L W O ≡ verdict room′ B o ws L W O
   unfolding verdict require _>>_ _>>=_
-  same-verdict ws L O = rw (le-leb room (length W) h, le-leb room′ (length W) h′) refl
+  same-verdict B o ws L O = rw (le-leb room (length W) h, le-leb room′ (length W) h′) refl
 
   same-course : (go : ℕ → Term → Ended) (ws : List ℕ) (g caller : ℕ) (S : List ℕ)
       → course room go ws g caller W S ≡ course room′ go ws g caller W S
@@ -34,22 +36,22 @@ either (refused r p) f g = g r p refl
 
 same-check : SameCheck
 unfolding check-by checked
-same-check ws L W O h =
-    rw (same-verdict (check-room L) (earlier.check-room L) W (omega arith) (omega arith) ws L O)
-    (either (verdict (earlier.check-room L) ws L W O) (λ τ e. rw e refl) (λ r p e. rw e refl))
+same-check B o ws L W O h =
+    rw (same-verdict (check-room L) (earlier.check-room L) W (omega arith) (omega arith) B o ws L O)
+    (either (verdict (earlier.check-room L) B o ws L W O) (λ τ e. rw e refl) (λ r p e. rw e refl))
 
 same-run : SameRun
 unfolding run-by ran
-same-run ws budget caller desk W S h =
+same-run B ws budget caller desk W S h =
     let g = grant budget caller desk in
-    rw (same-course run-room earlier.run-room W (omega arith) (omega arith) run-from ws g caller S)
-    (either (course earlier.run-room run-from ws g caller W S) (λ x e. rw e refl) (λ r p e. rw e refl))
+    rw (same-course run-room earlier.run-room W (omega arith) (omega arith) (run-from (step (bodies B))) ws g caller S)
+    (either (course earlier.run-room (run-from (step (bodies B))) ws g caller W S) (λ x e. rw e refl) (λ r p e. rw e refl))
 
 pub same-as-before : SameAsBefore
 same-as-before = (same-check, same-run)
 
 pub shorter-refused : ShorterRefused
 shorter-refused = (
-  λ ws L W O a w. check-answer ws L W O (work-refused a w),
-  λ ws budget caller desk W S k w. run-answer ws budget caller desk W S (work-refused′ k w),
+  λ B o ws L W O a w. check-answer B o ws L W O (work-refused a w),
+  λ B ws budget caller desk W S k w. run-answer B ws budget caller desk W S (work-refused′ k w),
 )

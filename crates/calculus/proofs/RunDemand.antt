@@ -14,9 +14,10 @@ use Rattle.calculus.specs.Answer.{Answer, Reason, ok, refused, _>>=_, _>
 use Rattle.calculus.specs.Words.{longest}
 use Rattle.calculus.specs.Scan.{read}
 use Rattle.calculus.specs.Kinds.{total}
-use Rattle.calculus.specs.Step.{Next}
+use Rattle.calculus.specs.Book.{Book, View, bodies}
+use Rattle.calculus.specs.Step.{Next, step}
 use Rattle.calculus.specs.Run.{End, Ends, ends-value, ends-stuck, ends-spent, ends-long, run-until}
-use Rattle.calculus.specs.Outcomes.{run-room, Desk, last-caller, grant, Ran, course, ran, run-by, run}
+use Rattle.calculus.specs.Outcomes.{run-room, Desk, last-caller, grant, Ran, course, ran, run-by, run-over}
 use Rattle.calculus.specs.Runs.{Runs, caller-refused, work-refused, state-refused, unread, ended, Demand2-run, CountsAddUp, Rests, SameAgain, EnoughSteps, RunRefusals}
 use Rattle.calculus.proofs.Comparisons.{le-leb, gt-leb}
 use Rattle.calculus.proofs.Says.{Says, says-ok, says-refused, of-ok, of-refused}
@@ -24,9 +25,9 @@ use Rattle.calculus.proofs.ReadBack.{codes-read, misread-refused, read-
 use Rattle.calculus.proofs.Courses.{Tested, tested, until-course, until-answer}
 
 -- A run by any order of ends.
-module _ {Order : ℕ → ℕ → Term → End → Type 0} {last : Next → End} (T : Tested Order last) (ws : List ℕ) (budget caller : ℕ)
+module _ {v : View} {Order : ℕ → ℕ → Term → End → Type 0} {last : Next → End} (T : Tested v Order last) (ws : List ℕ) (budget caller : ℕ)
     (desk : Desk) (W S : List ℕ) where
-  run-by-answer : {c : Ran} → Runs Order ws budget caller desk W S c → run-by run-room (run-until last) ws budget caller desk W S ≡ c
+  run-by-answer : {c : Ran} → Runs v Order ws budget caller desk W S c → run-by run-room (run-until (step v) last) ws budget caller desk W S ≡ c
   unfolding run-by ran course require _>>_ _>>=_
   run-by-answer (caller-refused k) = rw (gt-leb caller last-caller k) refl
   run-by-answer (work-refused k w) = rw (le-leb caller last-caller k, gt-leb run-room (length W) w) refl
@@ -46,7 +47,7 @@ module _ {Order : ℕ → ℕ → Term → End → Type 0} {last : Next → End}
 
   -- One of the cases holds.
   abbrev Outcome : Type 0
-  Outcome = (c : Ran) × Runs Order ws budget caller desk W S c
+  Outcome = (c : Ran) × Runs v Order ws budget caller desk W S c
 
   outcome : Outcome
   outcome = by-caller (decLe caller last-caller)
@@ -70,48 +71,48 @@ module _ {Order : ℕ → ℕ → Term → End → Type 0} {last : Next → End}
       by-caller (yes k) = by-work k (decLe run-room (length W))
       by-caller (no k) = (_, caller-refused (omega arith))
 
-  run-by-runs : Runs Order ws budget caller desk W S (run-by run-room (run-until last) ws budget caller desk W S)
-  run-by-runs = subst (Runs Order ws budget caller desk W S) (sym (run-by-answer (outcome .1))) (outcome .1)
+  run-by-runs : Runs v Order ws budget caller desk W S (run-by run-room (run-until (step v) last) ws budget caller desk W S)
+  run-by-runs = subst (Runs v Order ws budget caller desk W S) (sym (run-by-answer (outcome .1))) (outcome .1)
 
-  pub run-by-demand : (c : Ran) → (run-by run-room (run-until last) ws budget caller desk W S ≡ c) ↔ Runs Order ws budget caller desk W S c
-  run-by-demand c = (λ e. subst (Runs Order ws budget caller desk W S) e run-by-runs, run-by-answer)
+  pub run-by-demand : (c : Ran) → (run-by run-room (run-until (step v) last) ws budget caller desk W S ≡ c) ↔ Runs v Order ws budget caller desk W S c
+  run-by-demand c = (λ e. subst (Runs v Order ws budget caller desk W S) e run-by-runs, run-by-answer)
 
 pub demand2-run : Demand2-run
-demand2-run = run-by-demand tested
+demand2-run B = run-by-demand (tested (bodies B))
 
-pub run-answer : (ws : List ℕ) (budget caller : ℕ) (desk : Desk) (W S : List ℕ) {c : Ran}
-    → Runs Ends ws budget caller desk W S c
-    → run ws budget caller desk W S ≡ c
-run-answer ws budget caller desk W S {c} = demand2-run ws budget caller desk W S c .1
+pub run-answer : (B : Book) (ws : List ℕ) (budget caller : ℕ) (desk : Desk) (W S : List ℕ) {c : Ran}
+    → Runs (bodies B) (Ends (bodies B)) ws budget caller desk W S c
+    → run-over B ws budget caller desk W S ≡ c
+run-answer B ws budget caller desk W S {c} = demand2-run B ws budget caller desk W S c .1
 
-pub run-runs : (ws : List ℕ) (budget caller : ℕ) (desk : Desk) (W S : List ℕ)
-    → Runs Ends ws budget caller desk W S (run ws budget caller desk W S)
-run-runs ws budget caller desk W S = demand2-run ws budget caller desk W S _ .0 refl
+pub run-runs : (B : Book) (ws : List ℕ) (budget caller : ℕ) (desk : Desk) (W S : List ℕ)
+    → Runs (bodies B) (Ends (bodies B)) ws budget caller desk W S (run-over B ws budget caller desk W S)
+run-runs B ws budget caller desk W S = demand2-run B ws budget caller desk W S _ .0 refl
 
 -- A run at rest has the same end with every grant of its steps or more, and so the same outcome.
-rests-within : {g g′ n : ℕ} {x : Term} {E : End} → Ends g n x E → Rests E → n ≤ g′ → Ends g′ n x E
+rests-within : {v : View} {g g′ n : ℕ} {x : Term} {E : End} → Ends v g n x E → Rests E → n ≤ g′ → Ends v g′ n x E
 rests-within (ends-value h v) r l = ends-value l v
 rests-within (ends-stuck h v s) r l = ends-stuck l v s
 rests-within (ends-spent e s) r l = absurd (⊎-elim (λ e. true≢false (cc e)) (λ e. true≢false (cc e)) r)
 rests-within (ends-long h s l′) r l = absurd (⊎-elim (λ e. true≢false (cc e)) (λ e. true≢false (cc e)) r)
 
 pub enough-steps : EnoughSteps
-enough-steps ws budget caller desk W S s e = of-ok (rw e at (again (run-runs ws budget caller desk W S)))
+enough-steps B ws budget caller desk W S s e = of-ok (rw e at (again (run-runs B ws budget caller desk W S)))
   where
-    again : {c : Ran} → Runs Ends ws budget caller desk W S c → Says (SameAgain ws W S c) (λ r p. Unit {0}) (c .answer)
+    again : {c : Ran} → Runs (bodies B) (Ends (bodies B)) ws budget caller desk W S c → Says (SameAgain B ws W S c) (λ r p. Unit {0}) (c .answer)
     again (caller-refused i) = says-refused tt
     again (work-refused i w) = says-refused tt
     again (state-refused i w s) = says-refused tt
     again (unread i w s m) = says-refused tt
     again (ended i w s c k q a b l f) =
         says-ok λ budget′ caller′ desk′ i′ r m.
-        run-answer ws budget′ caller′ desk′ W S (ended i′ w s c k q a b (omega arith) (rests-within f r (omega arith)))
+        run-answer B ws budget′ caller′ desk′ W S (ended i′ w s c k q a b (omega arith) (rests-within f r (omega arith)))
 
 -- The counts of a run that ended add up.
 pub counts-add-up : CountsAddUp
-counts-add-up ws budget caller desk W S s e = of-ok (rw e at (adding (run-runs ws budget caller desk W S)))
+counts-add-up B ws budget caller desk W S s e = of-ok (rw e at (adding (run-runs B ws budget caller desk W S)))
   where
-    adding : {c : Ran} → Runs Ends ws budget caller desk W S c → Says (λ s. total (s .counts) ≡ s .steps) (λ r p. Unit {0}) (c .answer)
+    adding : {c : Ran} → Runs (bodies B) (Ends (bodies B)) ws budget caller desk W S c → Says (λ s. total (s .counts) ≡ s .steps) (λ r p. Unit {0}) (c .answer)
     adding (caller-refused i) = says-refused tt
     adding (work-refused i w) = says-refused tt
     adding (state-refused i w s) = says-refused tt
@@ -122,8 +123,8 @@ counts-add-up ws budget caller desk W S s e = of-ok (rw e at (adding (run-runs w
 abbrev Turned : Reason → ℕ → Type 0
 Turned r p = (((2 ≤ number r) × (number r ≤ 9)) ⊎ (number r ≡ 21)) × (p ≤ longest)
 
-numbers : {ws : List ℕ} {budget caller : ℕ} {desk : Desk} {W S : List ℕ} {c : Ran}
-    → Runs Ends ws budget caller desk W S c
+numbers : {v : View} {ws : List ℕ} {budget caller : ℕ} {desk : Desk} {W S : List ℕ} {c : Ran}
+    → Runs v (Ends v) ws budget caller desk W S c
     → Says (λ _. Unit {0}) Turned (c .answer)
 unfolding number
 numbers (caller-refused i) = says-refused (inr refl, zero-le)
@@ -132,9 +133,9 @@ numbers (state-refused i w s) = says-refused (inl (lit≤ tt, lit≤ tt), zero-l
 numbers (unread {r} i w s m) = let (l, u, q) = misread-numbers m in says-refused {r = r} (inl (omega arith, u), q)
 numbers (ended i w s c k q a b l f) = says-ok tt
 
-pub run-numbers : (ws : List ℕ) (budget caller : ℕ) (desk : Desk) (W S : List ℕ)
-    → Says (λ _. Unit {0}) Turned (run ws budget caller desk W S .answer)
-run-numbers ws budget caller desk W S = numbers (run-runs ws budget caller desk W S)
+pub run-numbers : (B : Book) (ws : List ℕ) (budget caller : ℕ) (desk : Desk) (W S : List ℕ)
+    → Says (λ _. Unit {0}) Turned (run-over B ws budget caller desk W S .answer)
+run-numbers B ws budget caller desk W S = numbers (run-runs B ws budget caller desk W S)
 
 pub run-refusals : RunRefusals
-run-refusals ws budget caller desk W S r p e = of-refused (rw e at (run-numbers ws budget caller desk W S)) .0
+run-refusals B ws budget caller desk W S r p e = of-refused (rw e at (run-numbers B ws budget caller desk W S)) .0

@@ -97,7 +97,7 @@ scan-first : (room binders : ℕ) (ws : List ℕ) (a : Term) (rest : List ℕ)
     → (ss : List Pending) (p : ℕ)
     → scan ws (pending room binders ∷ ss) (first-part p) ≡ (scan rest ss (second-part p a) >>= λ ts. ok (a ∷ ts))
 scan-first room binders ws a rest b known ss p =
-    let fills : Fills (pending room binders) a = record { scoped = b .scoped; within = b .within } in
+    let fills : Fills (pending room binders) a = record { scoped = b .scoped; within = b .within; named = b .named } in
     rw (b .written) (scan-term a (pending room binders) fills (omega (arith, b .within)) rest ss (first-part p))
 
 -- A refusal is the answer of all that waits for it.

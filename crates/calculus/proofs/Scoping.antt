@@ -1,13 +1,16 @@
 -- Which variables are free. More may be in scope than a term has, since an index below one bound is below a larger one, under binders
 -- too. A step adds none: what is put in for a variable is part of the term, and a walk through a term that takes every variable in
--- scope to a term in scope takes every term in scope to one, since this goes under a binder.
-use Prim.Native.Nat.{ℕ, zero, suc, _≤_, _<_}
-use mathlib.Core.Path.{sym, subst}
+-- scope to a term in scope takes every term in scope to one, since this goes under a binder; and a body that a name unfolds to is
+-- closed. A substitution leaves a closed term as it is.
+use Prim.Native.Nat.{ℕ, zero, suc, _≤_, _<_, zero-le}
+use mathlib.Core.Option.{some}
+use mathlib.Core.Path.{_≡_, refl, sym, ap, ap₂, subst}
 use native.Mathlib.Nat.{le-of-suc-le-suc}
 use native.Mathlib.Omega.{arith}
-use Rattle.calculus.specs.Term.{Term, var, star, app, lam, pi, castup, castdown, mu, substitute}
-use Rattle.calculus.specs.Words.{Scoped}
-use Rattle.calculus.specs.Rules.{_⟶_, s-beta, s-castdownup, s-app, s-castdown, s-mu}
+use Rattle.calculus.specs.Term.{Term, var, star, app, lam, pi, castup, castdown, mu, name, substitute}
+use Rattle.calculus.specs.Words.{Scoped, Named}
+use Rattle.calculus.specs.Book.{View}
+use Rattle.calculus.specs.Rules.{_⊩_⟶_, s-beta, s-castdownup, s-app, s-castdown, s-mu, s-name}
 use Rattle.calculus.proofs.Parallel.{traverse, lift-index, rename, lift, sub}
 use Rattle.calculus.proofs.Bridge.{single, substitute-is-sub}
 
@@ -21,6 +24,20 @@ scoped-more (pi a b) h s = (scoped-more a h (s .0), scoped-more b (omega arith) 
 scoped-more (castup a e) h s = (scoped-more a h (s .0), scoped-more e h (s .1))
 scoped-more (castdown e) h s = scoped-more e h s
 scoped-more (mu a e) h s = (scoped-more a h (s .0), scoped-more e (omega arith) (s .1))
+scoped-more (name i) h s = tt
+
+-- So it is with names.
+pub named-more : {m n : ℕ} (e : Term) → m ≤ n → Named m e → Named n e
+unfolding Named
+named-more (var i) h s = tt
+named-more star h s = tt
+named-more (app f u) h s = (named-more f h (s .0), named-more u h (s .1))
+named-more (lam a e) h s = (named-more a h (s .0), named-more e h (s .1))
+named-more (pi a b) h s = (named-more a h (s .0), named-more b h (s .1))
+named-more (castup a e) h s = (named-more a h (s .0), named-more e h (s .1))
+named-more (castdown e) h s = named-more e h s
+named-more (mu a e) h s = (named-more a h (s .0), named-more e h (s .1))
+named-more (name i) h s = omega arith
 
 module _ {A : Type 0} (v : A → Term) (l : (ℕ → A) → ℕ → A) where
   -- The variables below `n` go to terms with variables below `m`.
@@ -45,6 +62,7 @@ module _ {A : Type 0} (v : A → Term) (l : (ℕ → A) → ℕ → A) where
   traverse-scoped u f n m k (castdown e) s = traverse-scoped u f n m k e s
   traverse-scoped u f n m k (mu a e) s =
       (traverse-scoped u f n m k a (s .0), traverse-scoped u (l f) (suc n) (suc m) (u f n m k) e (s .1))
+  traverse-scoped u f n m k (name i) s = tt
 
 rename-scoped : (ρ : ℕ → ℕ) (n m : ℕ) → ((i : ℕ) → i < n → ρ i < m) → (t : Term) → Scoped n t → Scoped m (rename ρ t)
 unfolding rename lift-index Scoped
@@ -70,10 +88,39 @@ substitute-scoped n s t h k = subst (Scoped n) (sym (substitute-is-sub s t)) (su
     each zero l = h
     each (suc i) l = le-of-suc-le-suc l
 
-pub step-scoped : (n : ℕ) {e x : Term} → e ⟶ x → Scoped n e → Scoped n x
+-- What a view shows is closed.
+abbrev pub Shut : View → Type 0
+Shut v = (i : ℕ) (e : Term) → v i ≡ some e → Scoped 0 e
+
+pub step-scoped : (n : ℕ) {v : View} {e x : Term} → Shut v → v ⊩ e ⟶ x → Scoped n e → Scoped n x
 unfolding Scoped
-step-scoped n (s-beta {e₁ = e} {e₂ = u}) s = substitute-scoped n u e (s .1) (s .0 .1)
-step-scoped n s-castdownup s = s .1
-step-scoped n (s-app r) s = (step-scoped n r (s .0), s .1)
-step-scoped n (s-castdown r) s = step-scoped n r s
-step-scoped n (s-mu {τ = a} {e}) s = substitute-scoped n (mu a e) e s (s .1)
+step-scoped n c (s-beta {e₁ = e} {e₂ = u}) s = substitute-scoped n u e (s .1) (s .0 .1)
+step-scoped n c s-castdownup s = s .1
+step-scoped n c (s-app r) s = (step-scoped n c r (s .0), s .1)
+step-scoped n c (s-castdown r) s = step-scoped n c r s
+step-scoped n c (s-mu {τ = a} {e}) s = substitute-scoped n (mu a e) e s (s .1)
+step-scoped n c (s-name {i} {e} h) s = scoped-more e zero-le (c i e h)
+
+-- A substitution that keeps the variables in scope keeps a term.
+abbrev Keeping : (ℕ → Term) → ℕ → Type 0
+Keeping σ n = (i : ℕ) → i < n → σ i ≡ var i
+
+keeping-under : {σ : ℕ → Term} {n : ℕ} → Keeping σ n → Keeping (lift σ) (suc n)
+unfolding lift rename traverse
+keeping-under k zero h = refl
+keeping-under k (suc i) h = ap (rename suc) (k i (le-of-suc-le-suc h))
+
+sub-kept : (σ : ℕ → Term) (n : ℕ) → Keeping σ n → (t : Term) → Scoped n t → sub σ t ≡ t
+unfolding Scoped sub traverse
+sub-kept σ n k (var i) s = k i s
+sub-kept σ n k star s = refl
+sub-kept σ n k (app f u) (s, r) = ap₂ app (sub-kept σ n k f s) (sub-kept σ n k u r)
+sub-kept σ n k (lam a e) (s, r) = ap₂ lam (sub-kept σ n k a s) (sub-kept (lift σ) (suc n) (keeping-under k) e r)
+sub-kept σ n k (pi a b) (s, r) = ap₂ pi (sub-kept σ n k a s) (sub-kept (lift σ) (suc n) (keeping-under k) b r)
+sub-kept σ n k (castup a e) (s, r) = ap₂ castup (sub-kept σ n k a s) (sub-kept σ n k e r)
+sub-kept σ n k (castdown e) s = ap castdown (sub-kept σ n k e s)
+sub-kept σ n k (mu a e) (s, r) = ap₂ mu (sub-kept σ n k a s) (sub-kept (lift σ) (suc n) (keeping-under k) e r)
+sub-kept σ n k (name i) s = refl
+
+pub sub-closed : (σ : ℕ → Term) (t : Term) → Scoped 0 t → sub σ t ≡ t
+sub-closed σ t s = sub-kept σ 0 (λ i h. absurd (omega arith)) t s

@@ -6,15 +6,19 @@ use mathlib.Core.List.{List, [], _∷_}
 use mathlib.Core.Path.{_≡_, refl, sym, _∙_, ap, ap₂, subst}
 use native.Mathlib.Omega.{arith}
 use lib.Dec.{T, leb, eqb, leb→le, eqb→eq}
+use lib.ListN.{length}
 use Rattle.calculus.specs.Term.{Term, size, raise, substitute}
 use Rattle.calculus.specs.Answer.{Reason, Answer, ok, refused, _>>=_, _>>_, require, number}
-use Rattle.calculus.specs.Words.{emit, words, longest}
+use Rattle.calculus.specs.Words.{emit, words, Codes, longest}
 use Rattle.calculus.specs.Meaning.{meaning, binds}
 use Rattle.calculus.specs.Scan.{means, bound, test, node₁, node₂, node, below, scan, the-first, read}
-use Rattle.calculus.specs.Rules.{_⟶_, env-empty}
+use Rattle.calculus.specs.Book.{view, bodies, seen}
+use Rattle.calculus.specs.Book as book
+use Rattle.calculus.specs.Rules.{_⊩_⟶_, env-empty}
+use Rattle.calculus.specs.Growing.{nothing-added}
 use Rattle.calculus.specs.Kinds.{Kind, by-substitution, by-unfolding, by-cancellation, kind, Counts, counts, counting, total, Counted, counted-none, counted-more}
-use Rattle.calculus.specs.Step.{Next, value, stuck, next, under, applied, cancelled, step}
-use Rattle.calculus.specs.Infer.{annotation, same, measure, product, stepped, infer}
+use Rattle.calculus.specs.Step.{Next, value, stuck, next, under, applied, cancelled, unfolded, step}
+use Rattle.calculus.specs.Infer.{annotation, stored, same, measure, product, stepped, infer}
 use Rattle.calculus.specs.Run.{State, state-zero, state-suc, End, spent, end-number, Ends, ends-spent, Ended, done, one-more, advance, last-end, run-until, run-from}
 use Rattle.calculus.specs.Outcomes.{largest-limit, grant}
 use Rattle.calculus.specs.Checks.{Allowed, untyped, typed}
@@ -22,9 +26,12 @@ use Rattle.calculus.specs.Runs.{ended}
 use Rattle.calculus.specs.Starred.{Row, types, refuses, ends, spins, Claim, Claims, starred, StarredTerms}
 use Rattle.calculus.specs.MoreLimit.{examples, LimitExamples}
 use Rattle.calculus.proofs.Comparisons.{both}
-use Rattle.calculus.proofs.Coding.{words-length, words-injective}
+use Rattle.calculus.proofs.Coding.{words-length, worded, words-injective, codes-worded}
 use Rattle.calculus.proofs.ReadBack.{read-sound}
+use Rattle.calculus.proofs.Scoping.{step-scoped}
 use Rattle.calculus.proofs.Stepping.{next-step}
+use Rattle.calculus.proofs.Books.{seen-in-bodies}
+use Rattle.calculus.proofs.Soundness.{sound}
 use Rattle.calculus.proofs.Inference.{infer-sound, refused-sound}
 use Rattle.calculus.proofs.Refusals.{no-type}
 use Rattle.calculus.proofs.NumberInjective.{number-injective, end-number-injective}
@@ -71,10 +78,10 @@ unfolds : Kind → Bool
 unfolds k = same-counts (counting k (counts 0 0 0)) (counts 0 1 0)
 
 row-holds : Row → Bool
-row-holds (types ws L out) = allowed L && on-answer (λ t. on-answer (λ τ. same-words (words τ) out) (infer L [] 0 t)) (read ws)
-row-holds (refuses ws L r p) = allowed L && on-answer (λ t. refused-by r p (infer L [] 0 t)) (read ws)
-row-holds (ends ws budget E n c out) = on-answer (λ t. ended-by E n c out (run-from budget t)) (read ws)
-row-holds (spins ws) = on-answer (λ t. on-next (λ k x. unfolds k && same-words (words x) (words t)) (step t)) (read ws)
+row-holds (types ws L out) = allowed L && on-answer (λ t. on-answer (λ τ. same-words (words τ) out) (infer (book.types []) (step (seen 0 [])) L [] 0 t)) (read ws)
+row-holds (refuses ws L r p) = allowed L && on-answer (λ t. refused-by r p (infer (book.types []) (step (seen 0 [])) L [] 0 t)) (read ws)
+row-holds (ends ws budget E n c out) = on-answer (λ t. ended-by E n c out (run-from (step (bodies [])) budget t)) (read ws)
+row-holds (spins ws) = on-answer (λ t. on-next (λ k x. unfolds k && same-words (words x) (words t)) (step (bodies []) t)) (read ws)
 
 rows-hold : List Row → Bool
 rows-hold [] = true
@@ -146,29 +153,29 @@ is-unfolding by-cancellation h = elim h [ ]
 types-claim : (ws : List ℕ) (L : ℕ) (out : List ℕ) {t τ : Term}
     → Allowed L
     → read ws ≡ ok t
-    → infer L [] 0 t ≡ ok τ
+    → infer (book.types []) (step (seen 0 [])) L [] 0 t ≡ ok τ
     → words τ ≡ out
     → Claim (types ws L out)
 unfolding Claim
 types-claim ws L out {t} {τ} a e i o =
     let c = read-sound ws t e in
-    let d = infer-sound 0 env-empty (c .1 .closed) i in
-    (t, τ, c, sym o, d, λ W O l m. rw (← o, words-length τ) (check-answer ws L W O (typed a l m c d)))
+    let d = infer-sound (sound nothing-added) (seen-in-bodies 0 []) 0 env-empty (c .1 .closed) (c .1 .named) i in
+    (t, τ, c, sym o, d, λ W O l m. rw (← o, words-length τ) (check-answer [] 0 ws L W O (typed a l m c d)))
 
 refuses-claim : (ws : List ℕ) (L : ℕ) (r : Reason) (p : ℕ) {t : Term}
     → Allowed L
     → read ws ≡ ok t
-    → infer L [] 0 t ≡ refused r p
+    → infer (book.types []) (step (seen 0 [])) L [] 0 t ≡ refused r p
     → Claim (refuses ws L r p)
 unfolding Claim
 refuses-claim ws L r p {t} a e i =
     let c = read-sound ws t e in
-    let f = refused-sound env-empty (c .1 .closed) i in
-    (t, c, f, λ n τ d. no-type f n d, λ W O l m. check-answer ws L W O (untyped a l m c f))
+    let f = refused-sound (sound nothing-added) (seen-in-bodies 0 []) env-empty (c .1 .closed) (c .1 .named) i in
+    (t, c, f, λ n τ d. no-type f n d, λ W O l m. check-answer [] 0 ws L W O (untyped a l m c f))
 
 ends-claim : (ws : List ℕ) (budget : ℕ) (E : End) (n : ℕ) (c : Counts) (out : List ℕ) {t x : Term}
     → read ws ≡ ok t
-    → Course Ends budget t E n c x
+    → Course (bodies []) (Ends (bodies [])) budget t E n c x
     → words x ≡ out
     → Claim (ends ws budget E n c out)
 unfolding Claim
@@ -185,21 +192,21 @@ ends-claim ws budget E n c out {t} {x} e k o =
           let given : budget ≡ grant budget caller desk = omega arith in
           rw
           (← o)
-          (run-answer ws budget caller desk W S (ended i l m w (k .last) (k .counted) (k .adds) (k .bounded) (rw given at (k .within)) (rw given at (k .ends)))),
+          (run-answer [] ws budget caller desk W S (ended i l m w (k .last) (k .counted) (k .adds) (k .bounded) (rw given at (k .within)) (rw given at (k .ends)))),
     )
 
 -- A term that unfolds to itself is each of its states, so every run of it is spent, in unfoldings.
-module _ {t : Term} (s : t ⟶ t) (u : kind s ≡ by-unfolding) where
-  spinning : (k : ℕ) → State t k t
+module _ {t : Term} (s : bodies [] ⊩ t ⟶ t) (u : kind s ≡ by-unfolding) where
+  spinning : (k : ℕ) → State (bodies []) t k t
   spinning zero = state-zero
   spinning (suc k) = state-suc (spinning k) s
 
-  unfoldings : (k : ℕ) → Counted t (counts 0 k 0) t
+  unfoldings : (k : ℕ) → Counted (bodies []) t (counts 0 k 0) t
   unfolding counting
   unfoldings zero = counted-none
-  unfoldings (suc k) = subst (λ j. Counted t (counting j (counts 0 k 0)) t) u (counted-more (unfoldings k) s)
+  unfoldings (suc k) = subst (λ j. Counted (bodies []) t (counting j (counts 0 k 0)) t) u (counted-more (unfoldings k) s)
 
-  spinning-course : size t ≤ longest → (g : ℕ) → Course Ends g t spent g (counts 0 g 0) t
+  spinning-course : size t ≤ longest → (g : ℕ) → Course (bodies []) (Ends (bodies [])) g t spent g (counts 0 g 0) t
   unfolding total
   spinning-course h g =
       record {
@@ -220,9 +227,17 @@ module _ {t : Term} (s : t ⟶ t) (u : kind s ≡ by-unfolding) where
         (s, u),
         λ budget caller desk W S i l m.
             let k = spinning-course (c .short) (grant budget caller desk) in
-            rw w (run-answer (words t) budget caller desk W S
+            rw w (run-answer [] (words t) budget caller desk W S
             (ended i l m (refl, c) (k .last) (k .counted) (k .adds) (k .bounded) (k .within) (k .ends))),
       )
+
+-- A next state with the words of a readable term is that term: it is closed, and no longer.
+same-term : {ws : List ℕ} {t x : Term} → bodies [] ⊩ t ⟶ x → Codes 0 ws t → words x ≡ words t → x ≡ t
+same-term {t = t} {x} s c w =
+    let closed = step-scoped 0 (sound nothing-added .closed .shut-bodies) s (c .1 .closed) in
+    words-injective x t
+    (worded 0 x closed (omega (arith, words-length x, words-length t, ap length w, c .1 .short)))
+    (codes-worded c) w
 
 -- A row that passes holds.
 row-claim : (r : Row) → T (row-holds r) → Claim r
@@ -230,22 +245,24 @@ unfolding row-holds
 row-claim (types ws L out) h =
     let (a, i) = both (allowed L) _ h in
     let (t, e, j) = answers _ (read ws) i in
-    let (τ, d, k) = answers _ (infer L [] 0 t) j in
+    let (τ, d, k) = answers _ (infer (book.types []) (step (seen 0 [])) L [] 0 t) j in
     types-claim ws L out (is-allowed L a) e d (same-words-equal (words τ) out k)
 row-claim (refuses ws L r p) h =
     let (a, i) = both (allowed L) _ h in
     let (t, e, j) = answers _ (read ws) i in
-    refuses-claim ws L r p (is-allowed L a) e (refuses-by r p (infer L [] 0 t) j)
+    refuses-claim ws L r p (is-allowed L a) e (refuses-by r p (infer (book.types []) (step (seen 0 [])) L [] 0 t) j)
 row-claim (ends ws budget E n c out) h =
     let (t, e, i) = answers _ (read ws) h in
-    let (p, q, k, o) = ends-by E n c out (run-from budget t) i in
-    let course = run-course budget t (read-sound ws t e .1 .short) in
+    let (p, q, k, o) = ends-by E n c out (run-from (step (bodies [])) budget t) i in
+    let course = run-course (bodies []) budget t (read-sound ws t e .1 .short) in
     ends-claim ws budget E n c out e (rw (p, q, k) at course) o
 row-claim (spins ws) h =
     let (t, e, i) = answers _ (read ws) h in
-    let (k, x, s, j) = steps-on _ (step t) i in
+    let (k, x, s, j) = steps-on _ (step (bodies []) t) i in
     let (u, same) = both (unfolds k) _ j in
-    let (r, kind) = next-step (s ∙ ap (next k) (words-injective x t (same-words-equal (words x) (words t) same))) in
+    let c = read-sound ws t e in
+    let itself = same-term (next-step (bodies []) t s .0) c (same-words-equal (words x) (words t) same) in
+    let (r, kind) = next-step (bodies []) t (s ∙ ap (next k) itself) in
     spins-claim r (kind ∙ is-unfolding k u) ws e
 
 rows-claim : (rs : List Row) → T (rows-hold rs) → Claims rs
@@ -256,7 +273,7 @@ rows-claim (r ∷ rs) h =
     (row-claim r i, rows-claim rs j)
 
 rows : Claims starred × Claims examples
-unfolding rows-hold row-holds same-words on-answer refused-by on-next allowed ended-by same-counts unfolds read scan test means meaning bound binds node node₁ node₂ below the-first _>>=_ _>>_ require number infer annotation measure product stepped same decide size raise substitute step under applied cancelled words emit run-until last-end advance done one-more counting end-number
+unfolding rows-hold row-holds same-words on-answer refused-by on-next allowed ended-by same-counts unfolds read scan test means meaning bound binds node node₁ node₂ below the-first _>>=_ _>>_ require number infer annotation stored measure product stepped same decide size raise substitute step under applied cancelled unfolded view book.types bodies seen words emit run-until last-end advance done one-more counting end-number
 rows = (rows-claim starred tt, rows-claim examples tt)
 
 pub starred-terms : StarredTerms

@@ -4,9 +4,10 @@ use Prim.Native.Nat.{ℕ, _≤_, _<_}
 use mathlib.Core.Bool.{true, false, decide, decide-iff}
 use mathlib.Core.Logic.{_≢_}
 use mathlib.Core.Path.{_≡_, refl, ap}
-use Rattle.calculus.specs.Term.{Term, var, star, app, lam, pi, castup, castdown, mu, size, raise}
+use Rattle.calculus.specs.Term.{Term, var, star, app, lam, pi, castup, castdown, mu, name, size, raise}
 use Rattle.calculus.specs.Answer.{ok, refused, _>>=_, _>>_, require, not-product, no-step, over-limit}
-use Rattle.calculus.specs.Rules.{Context, _⟶_, CanStep, _∋_⦂_, here, there}
+use Rattle.calculus.specs.Book.{View}
+use Rattle.calculus.specs.Rules.{Context, _⊩_⟶_, CanStep, _∋_⦂_, here, there}
 use Rattle.calculus.specs.Step.{Next, step}
 use Rattle.calculus.specs.Infer.{annotation, same, measure, product, stepped}
 use Rattle.calculus.proofs.Comparisons.{le-leb, gt-leb}
@@ -43,17 +44,18 @@ no-product p {τ = pi a b} n = absurd (n a b refl)
 no-product p {τ = castup a e} n = refl
 no-product p {τ = castdown e} n = refl
 no-product p {τ = mu a e} n = refl
+no-product p {τ = name i} n = refl
 
-pub steps : (p : ℕ) {τ τ′ : Term} → τ ⟶ τ′ → stepped p (step τ) ≡ ok τ′
+pub steps : {v : View} (p : ℕ) {τ τ′ : Term} → v ⊩ τ ⟶ τ′ → stepped p (step v τ) ≡ ok τ′
 unfolding stepped
 steps p s = ap (stepped p) (step-next s)
 
-pub rests : (p : ℕ) {τ : Term} → ¬ CanStep τ → stepped p (step τ) ≡ refused no-step p
+pub rests : {v : View} (p : ℕ) {τ : Term} → ¬ CanStep v τ → stepped p (step v τ) ≡ refused no-step p
 unfolding stepped
-rests p {τ} n = at (step-finds τ)
+rests {v} p {τ} n = at (step-finds v τ)
   where
-    at : {x : Next} → Finds τ x → stepped p x ≡ refused no-step p
-    at (finds-value v) = refl
+    at : {x : Next} → Finds v τ x → stepped p x ≡ refused no-step p
+    at (finds-value w) = refl
     at (finds-stuck _ _) = refl
     at (finds-next s k) = absurd (n (_, s))
 

@@ -5,8 +5,9 @@ use mathlib.Core.Path.{_≡_}
 use mathlib.Core.Logic.{_↔_}
 use Rattle.calculus.specs.Term.{Term, size}
 use Rattle.calculus.specs.Words.{longest}
-use Rattle.calculus.specs.Rules.{_⟶_, CanStep, Value}
-use Rattle.calculus.specs.Step.{Next}
+use Rattle.calculus.specs.Book.{Book, View, bodies}
+use Rattle.calculus.specs.Rules.{_⊩_⟶_, CanStep, Value}
+use Rattle.calculus.specs.Step.{Next, step}
 use Rattle.calculus.specs.Run.{End, at-value, spent, at-stuck, too-long, run-until, run-from}
 use Rattle.calculus.specs.Outcomes.{Checked, check-by, Desk, alone, Ran, run-by}
 use Rattle.calculus.specs.Outcomes as now
@@ -14,28 +15,28 @@ use Rattle.calculus.specs.Runs.{Runs}
 
 -- Until document 02, 2.2. Document 01: "Ends, tested in this order before each step: 2 spent, steps equal the grant; 1 value; 3 stuck;
 -- 4 the next state is over 1,024 words."
-pub data Ends (g n : ℕ) (x : Term) : End → Type 0 where
-  ends-spent : n ≡ g → Ends g n x spent
-  ends-value : n < g → Value x → Ends g n x at-value
-  ends-stuck : n < g → ¬ Value x → ¬ CanStep x → Ends g n x at-stuck
-  ends-long : {y : Term} → n < g → x ⟶ y → longest < size y → Ends g n x too-long
+pub data Ends (v : View) (g n : ℕ) (x : Term) : End → Type 0 where
+  ends-spent : n ≡ g → Ends v g n x spent
+  ends-value : n < g → Value x → Ends v g n x at-value
+  ends-stuck : n < g → ¬ Value x → ¬ CanStep v x → Ends v g n x at-stuck
+  ends-long : {y : Term} → n < g → v ⊩ x ⟶ y → longest < size y → Ends v g n x too-long
 
 -- A run whose grant was used was spent, whatever its state does.
 unfoldable pub last-end : Next → End
 last-end m = spent
 
-abbrev pub run : List ℕ → ℕ → ℕ → Desk → List ℕ → List ℕ → Ran
-run = run-by now.run-room (run-until last-end)
+abbrev pub run-over : Book → List ℕ → ℕ → ℕ → Desk → List ℕ → List ℕ → Ran
+run-over B = run-by now.run-room (run-until (step (bodies B)) last-end)
 
 -- It is the run whose ends are those.
 abbrev pub Demand2-run : Type 0
-Demand2-run = (ws : List ℕ) (budget caller : ℕ) (desk : Desk) (W S : List ℕ) (c : Ran)
-    → (run ws budget caller desk W S ≡ c) ↔ Runs Ends ws budget caller desk W S c
+Demand2-run = (B : Book) (ws : List ℕ) (budget caller : ℕ) (desk : Desk) (W S : List ℕ) (c : Ran)
+    → (run-over B ws budget caller desk W S ≡ c) ↔ Runs (bodies B) (Ends (bodies B)) ws budget caller desk W S c
 
 -- Until document 02, 2.9. Document 01: "The desk is one 32-bit allowance of steps", and no run named its caller: it is the run of
 -- caller 0 alone at the desk.
-abbrev pub run-alone : List ℕ → ℕ → ℕ → List ℕ → List ℕ → Ran
-run-alone ws budget allowance W S = now.run ws budget 0 (alone allowance) W S
+abbrev pub run-alone : Book → List ℕ → ℕ → ℕ → List ℕ → List ℕ → Ran
+run-alone B ws budget allowance W S = now.run-over B ws budget 0 (alone allowance) W S
 
 -- Until document 02, 2.12. Document 01: "512 × L words (check) or 4,096 words (run)". Terms lay in the working slice as plain words,
 -- without the lengths of their subterms.
@@ -45,8 +46,8 @@ check-room L = 512 * L
 abbrev pub run-room : ℕ
 run-room = 4096
 
-abbrev pub check-plain : List ℕ → ℕ → List ℕ → List ℕ → Checked
+abbrev pub check-plain : Book → ℕ → List ℕ → ℕ → List ℕ → List ℕ → Checked
 check-plain = check-by check-room
 
-abbrev pub run-plain : List ℕ → ℕ → ℕ → Desk → List ℕ → List ℕ → Ran
-run-plain = run-by run-room run-from
+abbrev pub run-plain : Book → List ℕ → ℕ → ℕ → Desk → List ℕ → List ℕ → Ran
+run-plain B = run-by run-room (run-from (step (bodies B)))

@@ -4,10 +4,12 @@ pub mod Answer
 pub mod Words
 pub mod Meaning
 pub mod Reading
+pub mod Book
 pub mod Rules
 pub mod Kinds
 pub mod Limit
 pub mod Failing
+pub mod Growing
 pub mod Scan
 pub mod Step
 pub mod Infer
@@ -18,6 +20,8 @@ pub mod Parts
 pub mod Checks
 pub mod Runs
 pub mod Safety
+pub mod Opening
+pub mod Unclaimed
 pub mod Shares
 pub mod Starred
 pub mod MoreLimit

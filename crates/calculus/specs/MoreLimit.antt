@@ -6,10 +6,11 @@ use mathlib.Core.Logic.{_≢_, _⊎_}
 use lib.ListN.{length, take}
 use Rattle.calculus.specs.Term.{Term}
 use Rattle.calculus.specs.Answer.{Answer, ok, refused, Reason, number, no-step, over-limit}
+use Rattle.calculus.specs.Book.{Book, View}
 use Rattle.calculus.specs.Rules.{Context}
-use Rattle.calculus.specs.Limit.{_⊢⟨_⟩_⦂_}
+use Rattle.calculus.specs.Limit.{_∣_∣_⊢⟨_⟩_⦂_}
 use Rattle.calculus.specs.Failing.{Fails}
-use Rattle.calculus.specs.Outcomes.{check-room, Checked, check}
+use Rattle.calculus.specs.Outcomes.{check-room, Checked, check-over}
 use Rattle.calculus.specs.Checks.{Allowed}
 use Rattle.calculus.specs.Starred.{Row, types, refuses, Claims}
 
@@ -33,9 +34,9 @@ Admitted L W O = Allowed L × (check-room L ≤ length W) × (L ≤ length O)
 -- "A check whose answer at L is neither 16 nor one of 1–3 gives that answer, place and type at every larger allowed L with slices
 -- long enough."
 abbrev pub MoreLimit : Type 0
-MoreLimit = (ws : List ℕ) (L L′ : ℕ) (W W′ O O′ : List ℕ)
-    → Settled (check ws L W O .answer) → L ≤ L′ → Admitted L′ W′ O′
-    → told (check ws L′ W′ O′) ≡ told (check ws L W O)
+MoreLimit = (B : Book) (o : ℕ) (ws : List ℕ) (L L′ : ℕ) (W W′ O O′ : List ℕ)
+    → Settled (check-over B o ws L W O .answer) → L ≤ L′ → Admitted L′ W′ O′
+    → told (check-over B o ws L′ W′ O′) ≡ told (check-over B o ws L W O)
 
 -- A refusal by 16.
 abbrev pub Over : Checked → Type 0
@@ -43,7 +44,7 @@ Over c = (p : ℕ) × (c .answer ≡ refused over-limit p)
 
 -- No answer is left out but 16: a check that is admitted is settled or refused by 16.
 abbrev pub SettledOrOver : Type 0
-SettledOrOver = (ws : List ℕ) (L : ℕ) (W O : List ℕ) → Admitted L W O → Settled (check ws L W O .answer) ⊎ Over (check ws L W O)
+SettledOrOver = (B : Book) (o : ℕ) (ws : List ℕ) (L : ℕ) (W O : List ℕ) → Admitted L W O → Settled (check-over B o ws L W O .answer) ⊎ Over (check-over B o ws L W O)
 
 -- Nothing of an answer is left out: checks that tell the same have the same answer, place and type.
 abbrev pub TellsAll : Type 0
@@ -56,16 +57,16 @@ SameOrOver c c′ = (told c ≡ told c′) ⊎ Over c
 
 -- Read the other way: a smaller limit tells what a larger one tells, or is refused by 16.
 abbrev pub LessLimit : Type 0
-LessLimit = (ws : List ℕ) (L L′ : ℕ) (W W′ O O′ : List ℕ)
+LessLimit = (B : Book) (o : ℕ) (ws : List ℕ) (L L′ : ℕ) (W W′ O O′ : List ℕ)
     → L ≤ L′ → Admitted L W O → Admitted L′ W′ O′
-    → SameOrOver (check ws L W O) (check ws L′ W′ O′)
+    → SameOrOver (check-over B o ws L W O) (check-over B o ws L′ W′ O′)
 
 -- The same by the rules: what is typed within L is typed so within every larger limit, and typing that first fails by another
 -- reason than 16 first fails there by that reason at every larger limit.
 abbrev pub MoreLimitByRules : Type 0
-MoreLimitByRules = (L L′ : ℕ) (Γ : Context) (e : Term) → L ≤ L′
-    → ((τ : Term) → Γ ⊢⟨ L ⟩ e ⦂ τ → Γ ⊢⟨ L′ ⟩ e ⦂ τ)
-    × ((p q : ℕ) (r : Reason) → r ≢ over-limit → Fails L Γ p e r q → Fails L′ Γ p e r q)
+MoreLimitByRules = (B : Book) (v : View) (L L′ : ℕ) (Γ : Context) (e : Term) → L ≤ L′
+    → ((τ : Term) → B ∣ v ∣ Γ ⊢⟨ L ⟩ e ⦂ τ → B ∣ v ∣ Γ ⊢⟨ L′ ⟩ e ⦂ τ)
+    × ((p q : ℕ) (r : Reason) → r ≢ over-limit → Fails B v L Γ p e r q → Fails B v L′ Γ p e r q)
 
 -- An answer about a term that could be read: a type, or a refusal by one of 10–16.
 unfoldable pub Judged : Answer ℕ → Type 0
@@ -74,9 +75,9 @@ Judged (refused r p) = (10 ≤ number r) × (number r ≤ 16)
 
 -- What becomes of 16: such an answer, at any other limit.
 abbrev pub OverLimitBecomes : Type 0
-OverLimitBecomes = (ws : List ℕ) (L L′ : ℕ) (W W′ O O′ : List ℕ)
-    → Over (check ws L W O) → Admitted L′ W′ O′
-    → Judged (check ws L′ W′ O′ .answer)
+OverLimitBecomes = (B : Book) (o : ℕ) (ws : List ℕ) (L L′ : ℕ) (W W′ O O′ : List ℕ)
+    → Over (check-over B o ws L W O) → Admitted L′ W′ O′
+    → Judged (check-over B o ws L′ W′ O′ .answer)
 
 -- Examples, at growing limits. 16 becomes another refusal: a down cast of λ x : ⋆. x is 16 at the abstraction, whose type has three
 -- words, and then 13 at the cast. 16 becomes 16 elsewhere and then a type: λ x : ⋆. λ y : ⋆. y has a type of five words, its body one

@@ -5,11 +5,13 @@ use mathlib.Core.Bool.{cond, _&&_}
 use mathlib.Core.List.{List, [], _∷_, _++_}
 use lib.Dec.{leb}
 use lib.ListN.{length, take, drop, replicate, getD, set}
-use Rattle.calculus.specs.Term.{Term, var, star, app, lam, pi, castup, castdown, mu, size}
+use Rattle.calculus.specs.Term.{Term, var, star, app, lam, pi, castup, castdown, mu, name, size}
 use Rattle.calculus.specs.Answer.{Answer, ok, refused, _>>=_, _>>_, require, number, limit-not-allowed, work-short, output-short, caller-not-allowed}
 use Rattle.calculus.specs.Words.{words, longest}
 use Rattle.calculus.specs.Scan.{read}
 use Rattle.calculus.specs.Kinds.{Counts}
+use Rattle.calculus.specs.Book.{Book, types, bodies, seen}
+use Rattle.calculus.specs.Step.{step}
 use Rattle.calculus.specs.Infer.{infer}
 use Rattle.calculus.specs.Run.{End, Ended, run-from}
 
@@ -39,14 +41,15 @@ pub record Checked : Type 0 where
   pub work : List ℕ
   pub output : List ℕ
 
--- The refusals in document 01's order, where the working slice is to have `room` words, and otherwise the type.
-unfoldable pub verdict : ℕ → List ℕ → ℕ → List ℕ → List ℕ → Answer Term
-verdict room ws L W O = do
+-- The refusals in document 01's order, where the working slice is to have `room` words, and otherwise the type, over the book B for
+-- the owner `o`.
+unfoldable pub verdict : ℕ → Book → ℕ → List ℕ → ℕ → List ℕ → List ℕ → Answer Term
+verdict room B o ws L W O = do
   require limit-not-allowed 0 (leb 1 L && leb L largest-limit)
   require work-short 0 (leb room (length W))
   require output-short 0 (leb L (length O))
   t ← read ws
-  infer L [] 0 t
+  infer (types B) (step (seen o B)) L [] 0 t
 
 -- "Accepted: the first n output words are the type, the rest unchanged." "Refusals 1–9 leave the working slice too. After any other
 -- answer its first [room] words [...] are 0, the rest unchanged."
@@ -55,11 +58,15 @@ checked room W O (ok τ) = record { answer = ok (size τ); work = cleared room W
 checked room W O (refused r p) = record { answer = refused r p; work = cond (leb (number r) 9) W (cleared room W); output = O }
 
 -- A check with the room that a limit asks for: its verdict, and what it leaves in the slices.
-unfoldable pub check-by : (ℕ → ℕ) → List ℕ → ℕ → List ℕ → List ℕ → Checked
-check-by room ws L W O = checked (room L) W O (verdict (room L) ws L W O)
+unfoldable pub check-by : (ℕ → ℕ) → Book → ℕ → List ℕ → ℕ → List ℕ → List ℕ → Checked
+check-by room B o ws L W O = checked (room L) W O (verdict (room L) B o ws L W O)
 
+abbrev pub check-over : Book → ℕ → List ℕ → ℕ → List ℕ → List ℕ → Checked
+check-over = check-by check-room
+
+-- A call that is lent no book is over the empty one, of which every owner sees the same.
 abbrev pub check : List ℕ → ℕ → List ℕ → List ℕ → Checked
-check = check-by check-room
+check = check-over [] 0
 
 -- "The desk holds eight allowances, and a run names its caller, 0–7" (document 02, 2.9). Here it may hold any number of them.
 abbrev pub Desk : Type 0
@@ -122,8 +129,12 @@ ran room caller desk W S (refused r p) = record { answer = refused r p; desk = d
 unfoldable pub run-by : ℕ → (ℕ → Term → Ended) → List ℕ → ℕ → ℕ → Desk → List ℕ → List ℕ → Ran
 run-by room go ws budget caller desk W S = ran room caller desk W S (course room go ws (grant budget caller desk) caller W S)
 
+-- "Runs unfold all."
+abbrev pub run-over : Book → List ℕ → ℕ → ℕ → Desk → List ℕ → List ℕ → Ran
+run-over B = run-by run-room (run-from (step (bodies B)))
+
 abbrev pub run : List ℕ → ℕ → ℕ → Desk → List ℕ → List ℕ → Ran
-run = run-by run-room run-from
+run = run-over []
 
 -- A part lookup as a function: where the part stands in the caller's own words. "For a list that is no closed term, and for a part
 -- that isn't there, it hands back an empty part", here at place 0. Believed only through the theorems of `Parts`. (`length` is the
@@ -146,6 +157,7 @@ parts (pi a b) = a ∷ b ∷ []
 parts (castup a e) = a ∷ e ∷ []
 parts (castdown e) = e ∷ []
 parts (mu a e) = a ∷ e ∷ []
+parts (name i) = []
 
 -- Part 1, 2, … of a list of parts of which the first stands at `place`.
 unfoldable pub nth-part : List Term → ℕ → ℕ → Found

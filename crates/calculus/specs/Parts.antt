@@ -33,9 +33,9 @@ pub data PartAt : Term → ℕ → Term → ℕ → Type 0 where
 -- back that part of the caller's own words, not a copy. For a list that is no closed term, and for a part that isn't there, it hands
 -- back an empty part, its only refusal."
 pub data Finds (ws : List ℕ) (k : ℕ) : Found → Type 0 where
-  the-part : {t e : Term} {p : ℕ} → Codes ws t → PartAt t k e p → Finds ws k (record { start = p; extent = size e })
-  no-such-part : {t : Term} → Codes ws t → ((e : Term) (p : ℕ) → ¬ PartAt t k e p) → Finds ws k absent
-  no-closed-term : ((t : Term) → ¬ Codes ws t) → Finds ws k absent
+  the-part : {t e : Term} {p : ℕ} → Codes 0 ws t → PartAt t k e p → Finds ws k (record { start = p; extent = size e })
+  no-such-part : {t : Term} → Codes 0 ws t → ((e : Term) (p : ℕ) → ¬ PartAt t k e p) → Finds ws k absent
+  no-closed-term : ((t : Term) → ¬ Codes 0 ws t) → Finds ws k absent
 
 -- A lookup finds just that.
 abbrev pub Lookup : Type 0
@@ -44,7 +44,7 @@ Lookup = (ws : List ℕ) (k : ℕ) (f : Found) → (found ws k ≡ f) ↔ Finds 
 -- The words handed back are the part's; where nothing is found there are none.
 abbrev pub PartWords : Type 0
 PartWords = (ws : List ℕ) (k : ℕ)
-    → ((t e : Term) (p : ℕ) → Codes ws t → PartAt t k e p → part ws k ≡ words e) × (found ws k ≡ absent → part ws k ≡ [])
+    → ((t e : Term) (p : ℕ) → Codes 0 ws t → PartAt t k e p → part ws k ≡ words e) × (found ws k ≡ absent → part ws k ≡ [])
 
 -- They lie within the caller's own words.
 abbrev pub FoundWithin : Type 0

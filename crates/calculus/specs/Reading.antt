@@ -6,15 +6,16 @@ use mathlib.Core.Path.{_≡_}
 use lib.ListN.{length}
 use Rattle.calculus.specs.Term.{Term, size}
 use Rattle.calculus.specs.Answer.{Reason, length-not-allowed, no-meaning, list-ends, words-after, level-65, unbound}
-use Rattle.calculus.specs.Words.{emit, first-part, second-part, levels, Scoped, longest, deepest}
+use Rattle.calculus.specs.Words.{emit, first-part, second-part, levels, Scoped, Named, longest, deepest}
 use Rattle.calculus.specs.Meaning.{a-variable, nothing, meaning, binds}
 
 -- The words `ws` begin with those of the term `t`, of at most `room` levels and with no free index from `binders` on; behind them
--- stands `rest`.
+-- stands `rest`. No word names anything.
 pub record Begins (room binders : ℕ) (ws : List ℕ) (t : Term) (rest : List ℕ) : Type 0 where
   pub written : ws ≡ emit t rest
   pub within : levels t ≤ room
   pub scoped : Scoped binders t
+  pub named : Named 0 t
 
 -- `Unread room binders p ws r q`: reading a subterm from place `p` on, where the words `ws` stand, with `room` levels left and under
 -- `binders` binders, first fails by the reason `r` at the place `q`. "Words are read left to right, each tested in the order 5, 8, 9":

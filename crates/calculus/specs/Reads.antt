@@ -6,21 +6,22 @@ use mathlib.Core.Logic.{_↔_}
 use lib.ListN.{replicate}
 use Rattle.calculus.specs.Term.{Term}
 use Rattle.calculus.specs.Answer.{ok, refused, Reason, length-not-allowed, no-meaning, list-ends, words-after, level-65, unbound}
-use Rattle.calculus.specs.Words.{words, Codes}
+use Rattle.calculus.specs.Words.{words, Worded, Codes}
 use Rattle.calculus.specs.Reading.{Misread}
 use Rattle.calculus.specs.Scan.{read}
 
 -- "Every list of words is one term or none, and each term of those sizes has one list."
 abbrev pub Coding : Type 0
-Coding = (ws : List ℕ) (t : Term) → (read ws ≡ ok t) ↔ Codes ws t
+Coding = (ws : List ℕ) (t : Term) → (read ws ≡ ok t) ↔ Codes 0 ws t
 
 -- A list that is no term is refused where reading it first fails.
 abbrev pub Misreading : Type 0
 Misreading = (ws : List ℕ) (r : Reason) (p : ℕ) → (read ws ≡ refused r p) ↔ Misread ws r p
 
--- A term's words begin no other term's, so a state is found in its slice with no length.
+-- A term's words begin no other term's, so a state is found in its slice with no length. Their indices must have words of their own:
+-- the word of the variable 2,032 would be that of the name 0.
 abbrev pub PrefixFree : Type 0
-PrefixFree = (s t : Term) (j k : List ℕ) → words s ++ j ≡ words t ++ k → (s ≡ t) × (j ≡ k)
+PrefixFree = (s t : Term) (j k : List ℕ) → Worded s → Worded t → words s ++ j ≡ words t ++ k → (s ≡ t) × (j ≡ k)
 
 -- A list that is misread, with the reason and the place.
 pub record Edge : Type 0 where

@@ -9,9 +9,10 @@ use lib.ListN.{length, replicate}
 use Rattle.calculus.specs.Term.{Term}
 use Rattle.calculus.specs.Answer.{ok, refused, Reason, not-star, not-product, wrong-argument, no-step, wrong-cast, wrong-recursion, over-limit}
 use Rattle.calculus.specs.Words.{words, Codes, longest}
-use Rattle.calculus.specs.Rules.{_⟶_, _⊢_⦂_}
+use Rattle.calculus.specs.Book.{bodies, seen}
+use Rattle.calculus.specs.Rules.{_⊩_⟶_, _∣_∣_⊢_⦂_}
 use Rattle.calculus.specs.Kinds.{by-unfolding, kind, Counts, counts, Counted}
-use Rattle.calculus.specs.Limit.{_⊢⟨_⟩_⦂_}
+use Rattle.calculus.specs.Limit.{_∣_∣_⊢⟨_⟩_⦂_}
 use Rattle.calculus.specs.Failing.{Fails}
 use Rattle.calculus.specs.Run.{State, End, at-value, at-stuck, spent, too-long, Ends}
 use Rattle.calculus.specs.Outcomes.{check-room, run-room, begun, cleared, check, Desk, last-caller, allowance-of, lowered, grant, run}
@@ -28,15 +29,15 @@ pub data Row : Type 0 where
 
 -- What a row claims: by the rules first, and then of the call, for all long enough slices.
 unfoldable pub Claim : Row → Type 0
-Claim (types ws L out) = (t : Term) × (τ : Term) × Codes ws t × (out ≡ words τ) × ([] ⊢⟨ L ⟩ t ⦂ τ)
+Claim (types ws L out) = (t : Term) × (τ : Term) × Codes 0 ws t × (out ≡ words τ) × ([] ∣ seen 0 [] ∣ [] ⊢⟨ L ⟩ t ⦂ τ)
     × ((W O : List ℕ) → check-room L ≤ length W → L ≤ length O
     → check ws L W O ≡ record { answer = ok (length out); work = cleared (check-room L) W; output = begun out O })
-Claim (refuses ws L r p) = (t : Term) × Codes ws t × Fails L [] 0 t r p
-    × (r ≢ over-limit → (τ : Term) → [] ⊢ t ⦂ τ → ⊥)
+Claim (refuses ws L r p) = (t : Term) × Codes 0 ws t × Fails [] (seen 0 []) L [] 0 t r p
+    × (r ≢ over-limit → (τ : Term) → [] ∣ seen 0 [] ∣ [] ⊢ t ⦂ τ → ⊥)
     × ((W O : List ℕ) → check-room L ≤ length W → L ≤ length O
     → check ws L W O ≡ record { answer = refused r p; work = cleared (check-room L) W; output = O })
 Claim (ends ws budget E n c out) =
-    (t : Term) × (x : Term) × Codes ws t × (out ≡ words x) × State t n x × Counted t c x × Ends budget n x E
+    (t : Term) × (x : Term) × Codes 0 ws t × (out ≡ words x) × State (bodies []) t n x × Counted (bodies []) t c x × Ends (bodies []) budget n x E
     × ((caller : ℕ) (desk : Desk) (W S : List ℕ)
     → caller ≤ last-caller → budget ≤ allowance-of desk caller → run-room ≤ length W → longest ≤ length S
     → run ws budget caller desk W S ≡ record {
@@ -45,7 +46,7 @@ Claim (ends ws budget E n c out) =
       work = cleared run-room W;
       state = begun out S;
     })
-Claim (spins ws) = (t : Term) × Codes ws t × ((s : t ⟶ t) × (kind s ≡ by-unfolding))
+Claim (spins ws) = (t : Term) × Codes 0 ws t × ((s : bodies [] ⊩ t ⟶ t) × (kind s ≡ by-unfolding))
     × ((budget caller : ℕ) (desk : Desk) (W S : List ℕ) → caller ≤ last-caller → run-room ≤ length W → longest ≤ length S
     → run ws budget caller desk W S ≡ record {
       answer = ok (record { end = spent; steps = grant budget caller desk; counts = counts 0 (grant budget caller desk) 0 });

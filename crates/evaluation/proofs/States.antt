@@ -3,7 +3,7 @@
 -- not in.
 use Prim.Native.Nat.{ℕ, _*_, _≤_}
 use mathlib.Core.Bool.{Bool, true, false, not}
-use mathlib.Core.List.{List, _++_}
+use mathlib.Core.List.{List, [], _++_}
 use mathlib.Core.Path.{_≡_, refl, sym, _∙_, ap, subst}
 use native.Mathlib.Omega.{arith}
 use lib.Dec.{lit≤}
@@ -11,20 +11,24 @@ use lib.ListN.{length, take, drop}
 use lib.Seq.{sets, drop-at, length-take-le, take-append-le}
 use Rattle.calculus.specs.Term.{Term, size}
 use Rattle.calculus.specs.Words.{words, Readable, Scoped, longest, deepest}
+use Rattle.calculus.specs.Book.{bodies}
+use Rattle.calculus.specs.Growing.{nothing-added}
 use Rattle.calculus.specs.Step as calculus
 use Rattle.calculus.specs.Outcomes.{begun}
 use Rattle.calculus.proofs.Coding.{words-length}
 use Rattle.calculus.proofs.Stepping.{next-step}
 use Rattle.calculus.proofs.Scoping.{scoped-more, step-scoped}
+use Rattle.calculus.proofs.Soundness.{sound}
 use Rattle.term.specs.Kept.{kept}
 use Rattle.term.proofs.Keeping.{kept-length}
-use Rattle.reduction.specs.Stepping.{HeldWithin, Steps, Tells}
+use Rattle.reduction.specs.Stepping.{HeldWithin, Steps, Tells, next-of}
 use Rattle.reduction.specs.declared.stepping.Stepped.{Stepped}
+use Rattle.reduction.proofs.Replacing.{held-worded}
 use Rattle.kept.proofs.Begun.{sets-begun, take-begun, drop-begun}
 use Rattle.evaluation.specs.Courses.{buffer, Holds, Advances}
 
 -- What a step asks of the state.
-pub held-within : {slice : List ℕ} {count : ℕ} {x : Term} → Holds slice count x → HeldWithin (take (2 * count) slice) true
+abbrev pub held-within : {slice : List ℕ} {count : ℕ} {x : Term} → Holds slice count x → HeldWithin (take (2 * count) slice) true
 held-within {x} h =
     record {
       term = x;
@@ -82,7 +86,7 @@ module _ (slice : List ℕ) {after : List ℕ} (x : Term) (short : size x ≤ lo
 -- A term that was read is noted.
 pub noted-held : (ws : List ℕ) {t : Term} (slice : List ℕ) {after : List ℕ}
     → ws ≡ words t
-    → Readable t
+    → Readable 0 t
     → 2 * longest ≤ length slice
     → after ≡ sets slice 0 (kept t)
     → Holds after (length ws) t
@@ -94,12 +98,12 @@ advanced : {slice : List ℕ} {count : ℕ} {x : Term} (out after next : List �
     → length out ≡ 2 * longest
     → ((n : ℕ) → n ≤ longest → take (2 * n) next ≡ take (2 * n) after)
     → Holds slice count x
-    → Steps (calculus.step x) out r after
-    → Advances (calculus.step x) r next
+    → Steps (next-of x) out r after
+    → Advances (next-of x) r next
 unfolding Steps Advances
-advanced {x} out after next r room begins h = on (calculus.step x) refl
+advanced {x} out after next r room begins h = on (next-of x) refl
   where
-    on : (n : calculus.Next) → calculus.step x ≡ n → Steps n out r after → Advances n r next
+    on : (n : calculus.Next) → next-of x ≡ n → Steps n out r after → Advances n r next
     on calculus.value e s = s .0
     on calculus.stuck e s = s .0
     on (calculus.next k y) e (K, kind, a) = (
@@ -107,15 +111,16 @@ advanced {x} out after next r room begins h = on (calculus.step x) refl
       kind,
       λ l.
           let (told, written) = a .fits (omega arith) in
-          let there = stored-held out y l (omega arith) written (step-scoped 0 (next-step e .0) (h .closed)) in
-          (told, record { front = begins (size y) l ∙ there .front; extent = refl; short = l; closed = there .closed }),
+          let closed = step-scoped 0 (sound nothing-added .closed .shut-bodies) (next-step (bodies []) x e .0) (h .closed) in
+          let there = stored-held out y l (omega arith) written closed in
+          (told, record { front = begins (size y) l ∙ there .front; extent = refl; short = l; closed = closed }),
       λ l. a .full (omega arith) .0,
     )
 
 -- What a step of the state in the one buffer leaves in both.
 abbrev pub Moves : Bool → List ℕ → List ℕ → ℕ → Stepped → List ℕ → List ℕ → Type 0
 Moves lent work other count r work′ other′ =
-    ((x : Term) → Holds (buffer lent work other) count x → Advances (calculus.step x) r (buffer (not lent) work′ other′))
+    ((x : Term) → Holds (buffer lent work other) count x → Advances (next-of x) r (buffer (not lent) work′ other′))
     × ((buffer lent work′ other′ ≡ buffer lent work other) × (drop (2 * longest) work′ ≡ drop (2 * longest) work))
 
 pub from-lent : {lent : Bool} (work other : List ℕ) (count : ℕ) (r : Stepped) (after : List ℕ)
@@ -126,7 +131,7 @@ pub from-lent : {lent : Bool} (work other : List ℕ) (count : ℕ) (r : Stepped
 unfolding buffer
 from-lent work other count r after e room s =
     subst (λ b. Moves b work other count r work after) (sym e)
-    (λ x h. advanced other after after r room (λ n l. refl) h (s x (h .front)), (refl, refl))
+    (λ x h. advanced other after after r room (λ n l. refl) h (s x (h .front) (held-worded (held-within h))), (refl, refl))
 
 pub from-other : {lent : Bool} (work other : List ℕ) (count : ℕ) (r : Stepped) (after : List ℕ)
     → lent ≡ false
@@ -141,6 +146,6 @@ from-other work other count r after e room same s =
     subst (λ b. Moves b work other count r (after ++ rest) other) (sym e) (
       λ x h.
           advanced (take (2 * longest) work) after (after ++ rest) r n (λ k l. take-append-le (2 * k) after rest (omega arith)) h
-          (s x (h .front)),
+          (s x (h .front) (held-worded (held-within h))),
       (refl, drop-at after rest (2 * longest) (same ∙ n)),
     )

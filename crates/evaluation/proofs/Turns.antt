@@ -18,7 +18,7 @@ use Rattle.calculus.proofs.Comparisons.{le-leb, gt-leb}
 use Rattle.reduction.specs.declared.stepping.Kind as code
 use Rattle.reduction.specs.declared.stepping.Stepped.{Stepped}
 use Rattle.reduction.specs.declared.stepping.Stepped.the-variants as stepped
-use Rattle.reduction.specs.Stepping.{kind-of}
+use Rattle.reduction.specs.Stepping.{kind-of, next-of}
 use Rattle.evaluation.specs.declared.End.{End}
 use Rattle.evaluation.specs.declared.End.the-variants as end
 use Rattle.evaluation.specs.declared.Steps.{Steps}
@@ -48,14 +48,14 @@ later s e = record { end = e .end; steps = s .total + e .steps; counts = both (c
 pub record Reaches (grant : ℕ) (taken : Steps) (t : Term) (slice : List ℕ) (count : ℕ) : Type 0 where
   pub state : Term
   pub holds : Holds slice count state
-  pub course : run-from grant t ≡ later taken (run-from (grant - taken .total) state)
+  pub course : run-from next-of grant t ≡ later taken (run-from next-of (grant - taken .total) state)
 
 abbrev pub none : Steps
 none = record { total = 0; substitutions = 0; unfoldings = 0; cancellations = 0 }
 
 pub reaches-first : {grant : ℕ} {t : Term} {slice : List ℕ} {count : ℕ} → Holds slice count t → Reaches grant none t slice count
 reaches-first {grant} {t} h =
-    let r = run-from grant t in
+    let r = run-from next-of grant t in
     record {
       state = t;
       holds = h;
@@ -68,27 +68,29 @@ reaches-first {grant} {t} h =
 -- What the answer of a step from `x` says of the run from there with one step more than `g` granted, and of the buffer into which
 -- the next state is written.
 Turned : ℕ → Term → List ℕ → Stepped → Type 0
-Turned g x next stepped.Value = run-from (suc g) x ≡ done at-value x
-Turned g x next stepped.Stuck = run-from (suc g) x ≡ done at-stuck x
-Turned g x next stepped.Full = run-from (suc g) x ≡ done too-long x
-Turned g x next (stepped.To K n) = (y : Term) × (run-from (suc g) x ≡ one-more (kind-of K) (run-from g y)) × Holds next n y
+Turned g x next stepped.Value = run-from next-of (suc g) x ≡ done at-value x
+Turned g x next stepped.Stuck = run-from next-of (suc g) x ≡ done at-stuck x
+Turned g x next stepped.Full = run-from next-of (suc g) x ≡ done too-long x
+Turned g x next (stepped.To K n) =
+    (y : Term) × (run-from next-of (suc g) x ≡ one-more (kind-of K) (run-from next-of g y)) × Holds next n y
 
-turned : (g : ℕ) (x : Term) (next : List ℕ) (r : Stepped) → Advances (calculus.step x) r next → Turned g x next r
+turned : (g : ℕ) (x : Term) (next : List ℕ) (r : Stepped) → Advances (next-of x) r next → Turned g x next r
 unfolding Advances Turned run-until run.advance
-turned g x next r a = on (calculus.step x) refl a
+turned g x next r a = on (next-of x) refl a
   where
-    on : (n : calculus.Next) → calculus.step x ≡ n → Advances n r next → Turned g x next r
-    on calculus.value e a = subst (Turned g x next) (sym a) (ap (run.advance (run-from g) x) e)
-    on calculus.stuck e a = subst (Turned g x next) (sym a) (ap (run.advance (run-from g) x) e)
+    on : (n : calculus.Next) → next-of x ≡ n → Advances n r next → Turned g x next r
+    on calculus.value e a = subst (Turned g x next) (sym a) (ap (run.advance (run-from next-of g) x) e)
+    on calculus.stuck e a = subst (Turned g x next) (sym a) (ap (run.advance (run-from next-of g) x) e)
     on (calculus.next k y) e (K, kind, fits, full) = by-size (decLe (size y) longest)
       where
         by-size : Dec (size y ≤ longest) → Turned g x next r
         by-size (yes l) =
             let (p, h) = fits l in
-            subst (Turned g x next) (sym p) (y, ap (run.advance (run-from g) x) e ∙ rw (le-leb (size y) longest l, kind) refl, h)
+            subst (Turned g x next) (sym p)
+            (y, ap (run.advance (run-from next-of g) x) e ∙ rw (le-leb (size y) longest l, kind) refl, h)
         by-size (no l) =
             subst (Turned g x next) (sym (full (omega arith)))
-            (ap (run.advance (run-from g) x) e ∙ rw (gt-leb (size y) longest (omega arith)) refl)
+            (ap (run.advance (run-from next-of g) x) e ∙ rw (gt-leb (size y) longest (omega arith)) refl)
 
 -- The answers that end a run, and the ends.
 pub data Stops : Stepped → End → Type 0 where
@@ -99,7 +101,7 @@ pub data Stops : Stepped → End → Type 0 where
 stopped : (g : ℕ) (x : Term) (next : List ℕ) {r : Stepped} {E : End}
     → Stops r E
     → Turned g x next r
-    → run-from (suc g) x ≡ done (end-of E) x
+    → run-from next-of (suc g) x ≡ done (end-of E) x
 unfolding Turned
 stopped g x next stops-value h = h
 stopped g x next stops-stuck h = h
@@ -109,13 +111,13 @@ module _ {grant : ℕ} {taken : Steps} {t : Term} {slice : List ℕ} {count : �
   -- A run that ends at the present state.
   ends : {lent : Bool} {last : List ℕ} (E : End) (m : ℕ)
       → grant - taken .total ≡ m
-      → run-from m (h .state) ≡ done (end-of E) (h .state)
+      → run-from next-of m (h .state) ≡ done (end-of E) (h .state)
       → last ≡ slice
-      → Goes (run-from grant t) (record { end = E; steps = taken; length = count; lent = lent }) last
+      → Goes (run-from next-of grant t) (record { end = E; steps = taken; length = count; lent = lent }) last
   unfolding done
   ends {lent} {last} E m n e same =
       subst (λ r. Goes r (record { end = E; steps = taken; length = count; lent = lent }) last)
-      (sym (h .course ∙ ap (λ g. later taken (run-from g (h .state))) n ∙ ap (later taken) e))
+      (sym (h .course ∙ ap (λ g. later taken (run-from next-of g (h .state))) n ∙ ap (later taken) e))
       (record {
         end = refl;
         steps = sym (add-zero (taken .total));
@@ -126,13 +128,13 @@ module _ {grant : ℕ} {taken : Steps} {t : Term} {slice : List ℕ} {count : �
   -- A run whose grant is used.
   pub goes-last : {lent : Bool} {E : End}
       → taken .total ≡ grant
-      → end-of E ≡ last-end (calculus.step (h .state))
-      → Goes (run-from grant t) (record { end = E; steps = taken; length = count; lent = lent }) slice
+      → end-of E ≡ last-end (next-of (h .state))
+      → Goes (run-from next-of grant t) (record { end = E; steps = taken; length = count; lent = lent }) slice
   unfolding run-until
   goes-last {E} n e = ends E 0 (omega arith) (ap (λ E. done E (h .state)) (sym e)) refl
 
   -- A turn.
-  module _ (l : taken .total < grant) (r : Stepped) (next : List ℕ) (a : Advances (calculus.step (h .state)) r next) where
+  module _ (l : taken .total < grant) (r : Stepped) (next : List ℕ) (a : Advances (next-of (h .state)) r next) where
     turn : {s : Stepped} → r ≡ s → Turned (grant - (taken .total + 1)) (h .state) next s
     turn e =
         subst (Turned (grant - (taken .total + 1)) (h .state) next) e (turned (grant - (taken .total + 1)) (h .state) next r a)
@@ -141,7 +143,7 @@ module _ {grant : ℕ} {taken : Steps} {t : Term} {slice : List ℕ} {count : �
         → Stops s E
         → r ≡ s
         → last ≡ slice
-        → Goes (run-from grant t) (record { end = E; steps = taken; length = count; lent = lent }) last
+        → Goes (run-from next-of grant t) (record { end = E; steps = taken; length = count; lent = lent }) last
     goes-stop {E} o e same =
         let g = grant - (taken .total + 1) in
         ends E (suc g) (omega arith) (stopped g (h .state) next o (turn e)) same
@@ -154,7 +156,7 @@ module _ {grant : ℕ} {taken : Steps} {t : Term} {slice : List ℕ} {count : �
     unfolding Turned one-more
     reaches-next {K} more e many each =
         let (y, p, k) = turn e in
-        let rest = run-from (grant - (taken .total + 1)) y in
+        let rest = run-from next-of (grant - (taken .total + 1)) y in
         let n : grant - taken .total ≡ suc (grant - (taken .total + 1)) = omega arith in
         let m : taken .total + suc (rest .steps) ≡ taken .total + 1 + rest .steps = omega arith in
         record {
@@ -162,7 +164,7 @@ module _ {grant : ℕ} {taken : Steps} {t : Term} {slice : List ℕ} {count : �
           holds = k;
           course =
               h .course
-              ∙ ap (λ g. later taken (run-from g (h .state))) n
+              ∙ ap (λ g. later taken (run-from next-of g (h .state))) n
               ∙ ap (later taken) p
               ∙ rw (m, both-counting (kind-of K) (counts-of taken) (rest .counts), ← each, ← many) refl;
         }

@@ -14,19 +14,18 @@ use term::refusal::Refusal;
 ghost use mathlib.Core.Path.{_≡_};
 ghost use Prim.Native.Nat.{ℕ, _+_, _*_, _≤_, _<_};
 ghost use mathlib.Core.Bool.{not};
-ghost use mathlib.Core.List.{List};
+ghost use mathlib.Core.List.{List, []};
 ghost use lib.ListN.{length, take, drop};
 ghost use Rattle.calculus.specs.Term.{Term};
 ghost use Rattle.calculus.specs.Words.{Readable, words, longest};
 ghost use Rattle.calculus.specs.Answer.{refused};
 ghost use Rattle.calculus.specs.Kinds.{counting};
-ghost use Rattle.calculus.specs.Step as calculus;
 ghost use Rattle.calculus.specs.Run.{last-end, run-from};
 ghost use Rattle.calculus.specs.Outcomes.{allowance-of, alone, last-caller, lowered, run, run-room};
 ghost use Rattle.calculus.specs.Safety.{SafeRun};
 ghost use Rattle.term.specs.Reasons.{reason-of};
 ghost use Rattle.term.specs.Kept.{kept};
-ghost use Rattle.reduction.specs.Stepping.{Held, kind-of};
+ghost use Rattle.reduction.specs.Stepping.{Held, kind-of, next-of};
 ghost use Rattle.evaluation.specs.Courses.{AddUp, Advances, Goes, Holds, Performs, buffer, ended};
 ghost use Rattle.evaluation.specs.Outcomes.{answer-of, counts-of, end-of, ran-of};
 
@@ -140,7 +139,7 @@ fn current<'a>(lent: bool, work: &'a [u16], other: &'a [u16], count: usize) -> &
 // lie in one slice. Where the next state does not fit, the state is where it was.
 fn advance(lent: bool, work: &mut [u16], other: &mut [u16], count: usize) -> Stepped
     requires { ⌜ (2 * longest ≤ length (now work)) × (length (now other) ≡ 2 * longest) × ((x : Term) × Holds (buffer lent (now work) (now other)) count x) ⌝ }
-    ensures { λ r. ⌜ ((x : Term) → Holds (buffer lent (now (work .entry)) (now (other .entry))) count x → Advances (calculus.step x) r (buffer (not lent) (now (work .exit)) (now (other .exit)))) ⌝ }
+    ensures { λ r. ⌜ ((x : Term) → Holds (buffer lent (now (work .entry)) (now (other .entry))) count x → Advances (next-of x) r (buffer (not lent) (now (work .exit)) (now (other .exit)))) ⌝ }
     ensures { λ r. ⌜ (buffer lent (now (work .exit)) (now (other .exit)) ≡ buffer lent (now (work .entry)) (now (other .entry))) × (drop (2 * longest) (now (work .exit)) ≡ drop (2 * longest) (now (work .entry))) ⌝ }
 {
     if lent {
@@ -152,7 +151,7 @@ fn advance(lent: bool, work: &mut [u16], other: &mut [u16], count: usize) -> Ste
 // The end of a run whose grant is used: its state tells it, and no step is written.
 fn last_end(state: &[u16]) -> End
     requires { ⌜ Held (now state) ⌝ }
-    ensures { λ r. ⌜ ((x : Term) → now (state .entry) ≡ kept x → end-of r ≡ last-end (calculus.step x)) ⌝ }
+    ensures { λ r. ⌜ ((x : Term) → now (state .entry) ≡ kept x → end-of r ≡ last-end (next-of x)) ⌝ }
 {
     match find_redex(state) {
         Redex::Value => End::Value,
@@ -165,7 +164,7 @@ fn last_end(state: &[u16]) -> End
 // long: while a step is left, the step itself tells a value or a stuck state before it writes, and only then a state that does not fit.
 fn go(size: usize, grant: u32, work: &mut [u16], other: &mut [u16]) -> Course
     requires { ⌜ (2 * longest ≤ length (now work)) × (length (now other) ≡ 2 * longest) × ((t : Term) × Holds (now work) size t) ⌝ }
-    ensures { λ r. ⌜ ((t : Term) → Holds (now (work .entry)) size t → Goes (run-from grant t) r (buffer (r .lent) (now (work .exit)) (now (other .exit)))) ⌝ }
+    ensures { λ r. ⌜ ((t : Term) → Holds (now (work .entry)) size t → Goes (run-from next-of grant t) r (buffer (r .lent) (now (work .exit)) (now (other .exit)))) ⌝ }
     ensures { λ r. ⌜ drop (2 * longest) (now (work .exit)) ≡ drop (2 * longest) (now (work .entry)) ⌝ }
 {
     let mut count = size;
@@ -220,8 +219,8 @@ fn go(size: usize, grant: u32, work: &mut [u16], other: &mut [u16]) -> Course
 
 // Runs the term, and hands over the state that it came to. One of the two buffers is the front of the lent slice, the other is its own.
 fn perform(term: &[u16], grant: u32, work: &mut [u16], state: &mut [u16]) -> Course
-    requires { ⌜ (2 * longest ≤ length (now work)) × (longest ≤ length (now state)) × ((t : Term) × (now term ≡ words t) × Readable t) ⌝ }
-    ensures { λ r. ⌜ ((t : Term) → now (term .entry) ≡ words t → Readable t → Performs (run-from grant t) (now (work .entry)) (now (state .entry)) r (now (work .exit)) (now (state .exit))) ⌝ }
+    requires { ⌜ (2 * longest ≤ length (now work)) × (longest ≤ length (now state)) × ((t : Term) × (now term ≡ words t) × Readable 0 t) ⌝ }
+    ensures { λ r. ⌜ ((t : Term) → now (term .entry) ≡ words t → Readable 0 t → Performs (run-from next-of grant t) (now (work .entry)) (now (state .entry)) r (now (work .exit)) (now (state .exit))) ⌝ }
 {
     let mut other = [0u16; 2048];
     note(term, work, 0);
@@ -265,7 +264,7 @@ pub fn run(
     desk: Desk,
 ) -> Outcome
     ensures outcome { λ r. ⌜ ran-of r (now (work .exit)) (now (state .exit)) ≡ run (now (term .entry)) budget caller (desk .allowances) (now (work .entry)) (now (state .entry)) ⌝ }
-    ensures safety { λ r. ⌜ SafeRun (now (term .entry)) budget caller (desk .allowances) (now (work .entry)) (now (state .entry)) (ran-of r (now (work .exit)) (now (state .exit))) ⌝ }
+    ensures safety { λ r. ⌜ SafeRun [] [] (now (term .entry)) budget caller (desk .allowances) (now (work .entry)) (now (state .entry)) (ran-of r (now (work .exit)) (now (state .exit))) ⌝ }
 {
     if 7 < caller {
         return refused(Reason::CallerNotAllowed, 0, desk);

@@ -1,7 +1,7 @@
 -- From what `check` and `run` answer to the numbers of the exported structs. An answer is the calculus' own, so its variant fixes the
 -- numbers; and the calculus bounds a refused place and a type's length by 1,024, so each of them fits its field.
 use Prim.Native.Nat.{ℕ, _≤_}
-use mathlib.Core.List.{List}
+use mathlib.Core.List.{List, []}
 use mathlib.Core.Path.{_≡_, sym, ap, _∙_}
 use Rattle.calculus.specs.Words.{longest}
 use Rattle.calculus.specs.Run.{end-number}
@@ -42,10 +42,10 @@ module _ {c : calculus.Checked} (r : Checked) {W O : List ℕ} (e : checked-of r
 
 module _ (ws : List ℕ) (L : ℕ) (W₀ O₀ : List ℕ) (r : Checked) {W O : List ℕ} (e : checked-of r W O ≡ calculus.check ws L W₀ O₀) where
   pub length-within : (n : ℕ) → r ≡ checked.Typed n → n ≤ calculus.largest-limit
-  length-within n h = of-ok (rw (sym (ap (λ x. x .answer) e) ∙ ap check.answer-of h) at (check-numbers ws L W₀ O₀))
+  length-within n h = of-ok (rw (sym (ap (λ x. x .answer) e) ∙ ap check.answer-of h) at (check-numbers [] 0 ws L W₀ O₀))
 
   pub untyped-place : (f : Refusal) → r ≡ checked.Refused f → f .place ≤ longest
-  untyped-place f h = of-refused (rw (sym (ap (λ x. x .answer) e) ∙ ap check.answer-of h) at (check-numbers ws L W₀ O₀)) .2
+  untyped-place f h = of-refused (rw (sym (ap (λ x. x .answer) e) ∙ ap check.answer-of h) at (check-numbers [] 0 ws L W₀ O₀)) .2
 
 -- A run.
 module _ {c : calculus.Ran} (r : Outcome) {W S : List ℕ} (e : ran-of r W S ≡ c) where
@@ -93,4 +93,4 @@ pub unrun-place : (ws : List ℕ) (budget caller : ℕ) (desk : calculus.Desk) (
     → ran-of r W S ≡ calculus.run ws budget caller desk W₀ S₀
     → (f : Refusal) → r .answer ≡ ran.Refused f → f .place ≤ longest
 unrun-place ws budget caller desk W₀ S₀ r e f h =
-    of-refused (rw (sym (ap (λ x. x .answer) e) ∙ ap run.answer-of h) at (run-numbers ws budget caller desk W₀ S₀)) .1
+    of-refused (rw (sym (ap (λ x. x .answer) e) ∙ ap run.answer-of h) at (run-numbers [] ws budget caller desk W₀ S₀)) .1

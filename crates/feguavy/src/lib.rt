@@ -7,6 +7,7 @@ use term::find;
 use term::refusal::Reason;
 use typing::Checked;
 use typing::check;
+ghost use mathlib.Core.List.{[]};
 ghost use mathlib.Core.Path.{_≡_};
 ghost use Rattle.term.specs.Reasons.{number-of};
 ghost use Rattle.calculus.specs.Run.{end-number};
@@ -117,7 +118,7 @@ pub extern "C" fn feguavy_run(
     desk: Desk,
 ) -> RanNumbers
     ensures outcome { λ r. ⌜ Numbered-run (calculus.run (now (term .entry)) budget caller (desk .allowances) (now (work .entry)) (now (state .entry))) r (now (work .exit)) (now (state .exit)) ⌝ }
-    ensures safety { λ r. ⌜ ((c : calculus.Ran) × Numbered-run c r (now (work .exit)) (now (state .exit)) × SafeRun (now (term .entry)) budget caller (desk .allowances) (now (work .entry)) (now (state .entry)) c) ⌝ }
+    ensures safety { λ r. ⌜ ((c : calculus.Ran) × Numbered-run c r (now (work .exit)) (now (state .exit)) × SafeRun [] [] (now (term .entry)) budget caller (desk .allowances) (now (work .entry)) (now (state .entry)) c) ⌝ }
 {
     let outcome = run(term, budget, work, state, caller, desk);
     let left = outcome.desk;

@@ -9,18 +9,18 @@ use lib.ListN.{length, take, drop}
 use lib.Seq.{take-take}
 use Rattle.calculus.specs.Term.{Term, app, pi, size}
 use Rattle.calculus.specs.Answer.{ok}
-use Rattle.calculus.specs.Words.{emit, words, Scoped, longest}
+use Rattle.calculus.specs.Words.{emit, words, Scoped, longest, Worded}
 use Rattle.calculus.specs.Meaning.{meaning, a-pi}
 use Rattle.calculus.specs.Rules.{Context}
 use Rattle.calculus.specs.Infer.{infer}
 use Rattle.calculus.proofs.Scoping.{scoped-more}
 use Rattle.term.specs.Kept.{kept, word-at}
-use Rattle.inference.specs.Inference.{Subject}
+use Rattle.inference.specs.Inference.{judge, Subject}
 use Rattle.inference.specs.Moving.{Product}
 use Rattle.inference.proofs.Nodes.{of-app}
 use Rattle.inference.proofs.Subjects.{behind, part-words, first, second, replaced, place-first, place-second}
 use Rattle.inference.proofs.Rooms.{subject-shallow}
-use Rattle.inference.proofs.Types.{type-scoped, type-fits}
+use Rattle.inference.proofs.Types.{type-scoped, type-fits, type-worded}
 use Rattle.inference.proofs.Passing.{Part}
 use Rattle.inference.proofs.Heads.{Headed, type-headed, type-meaning}
 use Rattle.inference.proofs.KeptTypes.{same-part}
@@ -30,13 +30,14 @@ pub record Called (L : ℕ) (Γ : Context) (p : ℕ) (f u : Term) (places : List
   pub domain : Term
   pub codomain : Term
   pub type : Term
-  pub function : infer L Γ (suc p) f ≡ ok (pi domain codomain)
-  pub argument : infer L Γ (suc p + size f) u ≡ ok type
+  pub function : judge L Γ (suc p) f ≡ ok (pi domain codomain)
+  pub argument : judge L Γ (suc p + size f) u ≡ ok type
   pub read : n ≡ size f
   pub further : more ≡ size u
   pub long : m ≡ suc (size domain + size codomain)
   pub fits : m ≤ L
   pub own-fits : own ≤ L
+  pub has-words : L ≤ longest → Worded (pi domain codomain) × Worded type
   pub scoped : Scoped (suc (length Γ)) codomain
   pub lies : take (2 * m) (drop (2 * top) after) ≡ kept (pi domain codomain)
   pub type-lies : take (2 * own) (drop (2 * (top + m)) after) ≡ kept type
@@ -46,14 +47,14 @@ pub record Called (L : ℕ) (Γ : Context) (p : ℕ) (f u : Term) (places : List
 
 module _ {Γ : Context} {f u : Term} {term sub places : List ℕ} {depth : ℕ} (S : Subject Γ (app f u) term sub places depth) (L : ℕ)
     {work : List ℕ} {top n m : ℕ} {between places₁ : List ℕ}
-    (F : Part (infer L Γ (length term - length (behind 1 sub)) f) f places depth work top n m between places₁) where
+    (F : Part (judge L Γ (length term - length (behind 1 sub)) f) f places depth work top n m between places₁) where
   pub argument-subject : Subject Γ u term (behind (1 + n) sub) places₁ depth
   argument-subject = second (replaced S (F .context) (F .wide)) (1 + n) of-app (ap (λ k. 1 + k) (F .read))
 
   pub argument-words : {more : ℕ} → more ≡ size u → take (1 + n + more - (1 + n)) (drop (1 + n) sub) ≡ words u
   argument-words {more} x = part-words sub (1 + n) (1 + n + more - (1 + n)) argument-subject (omega arith)
 
-  pub function-found : infer L Γ (suc (length term - length sub)) f ≡ ok (F .type)
+  pub function-found : judge L Γ (suc (length term - length sub)) f ≡ ok (F .type)
   function-found = rw (← place-first S) (F .found)
 
   -- The first word decides whether its type is a product.
@@ -66,12 +67,12 @@ module _ {Γ : Context} {f u : Term} {term sub places : List ℕ} {depth : ℕ} 
   is-product w = type-headed L _ (first S of-app) F w
 
   pub function-product : (w : a-pi ≡ meaning (word-at between top))
-      → infer L Γ (suc (length term - length sub)) f ≡ ok (pi (is-product w .0) (is-product w .1))
+      → judge L Γ (suc (length term - length sub)) f ≡ ok (pi (is-product w .0) (is-product w .1))
   function-product w = function-found ∙ ap ok (is-product w .2)
 
   pub called : {more own : ℕ} {after places′ : List ℕ}
       → a-pi ≡ meaning (word-at between top)
-      → Part (infer L Γ (length term - length (behind (1 + n) sub)) u) u places₁ depth between (top + m) more own after places′
+      → Part (judge L Γ (length term - length (behind (1 + n) sub)) u) u places₁ depth between (top + m) more own after places′
       → Called L Γ (length term - length sub) f u places depth work top n more m own after places′
   unfolding size Scoped
   called {after} w U =
@@ -88,6 +89,8 @@ module _ {Γ : Context} {f u : Term} {term sub places : List ℕ} {depth : ℕ} 
         long = F .long ∙ ap size x;
         fits = omega (arith, F .long, type-fits (first S of-app) L _ (F .found));
         own-fits = omega (arith, U .long, type-fits argument-subject L _ (U .found));
+        has-words = λ short.
+            (subst Worded x (type-worded (first S of-app) L _ (F .found) short), type-worded argument-subject L _ (U .found) short);
         scoped = subst (Scoped (length Γ)) x (type-scoped (first S of-app) L _ (F .found)) .1;
         lies =
             same-part between after (2 * top) (2 * m)

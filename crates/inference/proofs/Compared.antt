@@ -11,6 +11,7 @@ use borrow.Author.Tests.{not-true, not-false}
 use lib.ListN.{length, take, drop}
 use lib.Seq.{sets}
 use Rattle.calculus.specs.Term.{Term, size}
+use Rattle.calculus.specs.Words.{Worded}
 use Rattle.term.specs.Kept.{kept}
 use Rattle.term.proofs.Keeping.{kept-injective}
 use Rattle.inference.proofs.KeptTypes.{written, lies-still}
@@ -19,10 +20,10 @@ pub longer : {m n : ℕ} (σ τ : Term) → m ≡ size σ → n ≡ size τ → 
 longer σ τ x y d q = d (x ∙ ap size q ∙ sym y)
 
 -- The kept words of τ and of σ were compared.
-module _ {first second : List ℕ} (σ τ : Term) (x : first ≡ kept τ) (y : second ≡ kept σ)
+module _ {first second : List ℕ} (σ τ : Term) (hσ : Worded σ) (hτ : Worded τ) (x : first ≡ kept τ) (y : second ≡ kept σ)
     {r : Bool} (h : (r ≡ true) ↔ (first ≡ second)) where
   same-term : not r ≡ false → σ ≡ τ
-  same-term q = sym (kept-injective τ σ (sym x ∙ h .0 (not-false r q) ∙ y))
+  same-term q = sym (kept-injective τ σ hτ hσ (sym x ∙ h .0 (not-false r q) ∙ y))
 
   other-term : not r ≡ true → σ ≢ τ
   other-term q e =
@@ -32,7 +33,7 @@ module _ {first second : List ℕ} (σ τ : Term) (x : first ≡ kept τ) (y : s
   compared = (other-term, same-term)
 
 -- τ lies at `top`, σ was written behind it, and the two parts of the slice were compared.
-module _ (before : List ℕ) (top m k : ℕ) {after : List ℕ} (σ τ : Term)
+module _ (before : List ℕ) (top m k : ℕ) {after : List ℕ} (σ τ : Term) (hσ : Worded σ) (hτ : Worded τ)
     (lies : take (2 * m) (drop (2 * top) before) ≡ kept τ) (x : after ≡ sets before (2 * (top + m)) (kept σ)) (long : k ≡ size σ)
     (room : 2 * (top + m + k) ≤ length before)
     {r : Bool}
@@ -50,4 +51,4 @@ module _ (before : List ℕ) (top m k : ℕ) {after : List ℕ} (σ τ : Term)
       ap (λ n. take n (drop (2 * (top + m)) after)) many ∙ written before (top + m) σ x (omega arith)
 
   pub compared-behind : (not r ≡ true → σ ≢ τ) × (not r ≡ false → σ ≡ τ)
-  compared-behind = compared σ τ first-lies second-lies h
+  compared-behind = compared σ τ hσ hτ first-lies second-lies h

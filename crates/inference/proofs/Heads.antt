@@ -12,9 +12,9 @@ use lib.ListN.{take, drop, getD}
 use lib.Seq.{getD-take, getD-drop}
 use mir.Val.{hasKey}
 use types.Run.{OneOf, miss}
-use Rattle.calculus.specs.Term.{Term, var, star, app, lam, pi, castup, castdown, mu, size}
+use Rattle.calculus.specs.Term.{Term, var, star, app, lam, pi, castup, castdown, mu, name, size}
 use Rattle.calculus.specs.Answer.{Answer}
-use Rattle.calculus.specs.Words.{emit, Scoped, deepest}
+use Rattle.calculus.specs.Words.{emit, Scoped, Named, deepest}
 use Rattle.calculus.specs.Meaning as calculus
 use Rattle.calculus.specs.Meaning.{meaning, a-star, a-castdown, an-app, a-castup, a-lam, a-pi, a-mu, a-variable, nothing}
 use Rattle.calculus.specs.Rules.{Context}
@@ -26,9 +26,9 @@ use Rattle.term.specs.Word.{meaning-of}
 use Rattle.term.specs.declared.word.Meaning.{Meaning}
 use Rattle.term.proofs.Visits.{tag}
 use Rattle.reduction.proofs.WordKinds.{index, tag-index}
-use Rattle.inference.specs.Inference.{Subject}
+use Rattle.inference.specs.Inference.{judge, Subject}
 use Rattle.inference.proofs.Rooms.{own-scope, deeper-scoped}
-use Rattle.inference.proofs.Types.{type-scoped}
+use Rattle.inference.proofs.Types.{type-scoped, type-named}
 use Rattle.inference.proofs.Passing.{Part}
 
 -- A term with the node that is meant.
@@ -43,16 +43,17 @@ Headed a-mu e = (a : Term) × (d : Term) × (e ≡ mu a d)
 Headed (a-variable i) e = e ≡ var i
 Headed nothing e = ⊥
 
-headed : (e : Term) (r : List ℕ) → Scoped deepest e → Headed (meaning (getD (emit e r) 0 0)) e
-unfolding Headed emit meaning Scoped word Indexed
-headed (var i) r s = subst (λ m. Headed m (var i)) (sym (meaning-word (a-variable i) (omega arith))) refl
-headed star r s = refl
-headed (app f u) r s = (f, u, refl)
-headed (lam a e) r s = (a, e, refl)
-headed (pi a b) r s = (a, b, refl)
-headed (castup a e) r s = (a, e, refl)
-headed (castdown e) r s = (e, refl)
-headed (mu a e) r s = (a, e, refl)
+headed : (e : Term) (r : List ℕ) → Scoped deepest e → Named 0 e → Headed (meaning (getD (emit e r) 0 0)) e
+unfolding Headed emit meaning Scoped Named word Indexed
+headed (var i) r s n = subst (λ m. Headed m (var i)) (sym (meaning-word (a-variable i) (omega arith))) refl
+headed star r s n = refl
+headed (app f u) r s n = (f, u, refl)
+headed (lam a e) r s n = (a, e, refl)
+headed (pi a b) r s n = (a, b, refl)
+headed (castup a e) r s n = (a, e, refl)
+headed (castdown e) r s n = (e, refl)
+headed (mu a e) r s n = (a, e, refl)
+headed (name i) r s n = absurd (omega (arith, n))
 
 -- The first word of the words read, which the code found to mean `m`.
 pub subject-headed : {Γ : Context} {e : Term} {term sub places : List ℕ} {depth : ℕ} {r m : Meaning}
@@ -62,7 +63,7 @@ pub subject-headed : {Γ : Context} {e : Term} {term sub places : List ℕ} {dep
     → Headed (meaning-of m) e
 subject-headed {e} S told means =
     subst (λ k. Headed k e) (ap (λ ws. meaning (getD ws 0 0)) (sym (S .begins)) ∙ sym means ∙ ap meaning-of told)
-    (headed e (S .rest) (deeper-scoped S e (own-scope S)))
+    (headed e (S .rest) (deeper-scoped S e (own-scope S)) (S .named))
 
 -- A kept term begins with the same word.
 same-head : (e : Term) (k r : List ℕ) → getD (keep e k) 0 0 ≡ getD (emit e r) 0 0
@@ -75,6 +76,7 @@ same-head (pi a b) k r = refl
 same-head (castup a e) k r = refl
 same-head (castdown e) k r = refl
 same-head (mu a e) k r = refl
+same-head (name i) k r = refl
 
 -- The first word of what is kept in a slice.
 lying-word : (τ : Term) (m top : ℕ) (after : List ℕ)
@@ -92,13 +94,13 @@ lying-word τ m top after x l =
 -- The type that was found of a subterm: its first word says which node it is.
 pub type-headed : {Γ : Context} {e : Term} {term sub places : List ℕ} {depth : ℕ} (L p : ℕ) {places₀ work : List ℕ} {depth₀ top n m : ℕ} {after places′ : List ℕ} {k : calculus.Meaning}
     → Subject Γ e term sub places depth
-    → (part : Part (infer L Γ p e) e places₀ depth₀ work top n m after places′)
+    → (part : Part (judge L Γ p e) e places₀ depth₀ work top n m after places′)
     → k ≡ meaning (word-at after top)
     → Headed k (part .type)
 type-headed L p {top} {m} {after} S part w =
     let τ = part .type in
     subst (λ k. Headed k τ) (ap meaning (sym (lying-word τ m top after (part .lies) (part .long))) ∙ sym w)
-    (headed τ [] (deeper-scoped S τ (type-scoped S L p (part .found))))
+    (headed τ [] (deeper-scoped S τ (type-scoped S L p (part .found))) (type-named S L p (part .found)))
 
 pub type-meaning : {x : Answer Term} {e τ : Term} {places : List ℕ} {depth : ℕ} {work : List ℕ} {top n m : ℕ} {after places′ : List ℕ}
     → (part : Part x e places depth work top n m after places′)

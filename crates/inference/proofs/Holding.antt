@@ -9,8 +9,8 @@ use native.Mathlib.Omega.{arith}
 use lib.ListN.{length, take, drop}
 use lib.Seq.{sets, length-sets}
 use Rattle.calculus.specs.Term.{Term, size}
-use Rattle.calculus.specs.Words.{words, longest}
-use Rattle.calculus.proofs.Coding.{words-length}
+use Rattle.calculus.specs.Words.{words, longest, Worded, deepest}
+use Rattle.calculus.proofs.Coding.{words-length, worded}
 use Rattle.calculus.proofs.Scoping.{scoped-more}
 use Rattle.term.specs.Kept.{kept, Lies}
 use Rattle.term.proofs.Keeping.{kept-length, lies-taken, lies-one}
@@ -110,15 +110,21 @@ module _ {held : List ℕ} {count : ℕ} {closed : Bool} (H : HeldPair held coun
         near = omega (arith, H .short .0);
       }
 
-  pub argument-cut : (n : ℕ) → n ≡ 2 * count → (u : Term) → Lies u held longest → take n (drop 2048 held) ≡ kept u
-  argument-cut n many u l =
-      let same : n ≡ 2 * size u = omega (arith, H .extent, ap size (lies-one l (H .back))) in
+  pub codomain-worded : Worded (H .codomain)
+  codomain-worded = worded deepest (H .codomain) (H .scoped .0) (omega (arith, H .short .0))
+
+  pub argument-worded : Worded (H .argument)
+  argument-worded = worded deepest (H .argument) (H .scoped .1) (omega (arith, H .short .1))
+
+  pub argument-cut : (n : ℕ) → n ≡ 2 * count → (u : Term) → Lies u held longest → Worded u → take n (drop 2048 held) ≡ kept u
+  argument-cut n many u l has =
+      let same : n ≡ 2 * size u = omega (arith, H .extent, ap size (lies-one has argument-worded l (H .back))) in
       ap (λ k. take k (drop 2048 held)) same ∙ lies-taken l
 
   pub argument-asked : (n : ℕ) → n ≡ 2 * count → Argument (H .argument) (take n (drop 2048 held)) closed
   argument-asked n many =
       record {
-        coded = argument-cut n many (H .argument) (H .back);
+        coded = argument-cut n many (H .argument) (H .back) argument-worded;
         fits = record { short = H .short .1; scoped = H .scoped .1 };
         shut = H .shut;
       }

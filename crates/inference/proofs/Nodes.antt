@@ -6,7 +6,7 @@ use mathlib.Core.Path.{_≡_, refl}
 use native.Mathlib.Omega.{arith}
 use lib.ListN.{drop}
 use Rattle.calculus.specs.Term.{Term, app, lam, pi, castup, mu, size}
-use Rattle.calculus.specs.Words.{emit, levels, Scoped}
+use Rattle.calculus.specs.Words.{emit, levels, Scoped, Named}
 
 -- `Two k e a b`: the node `e` has the parts `a` and `b`, and binds `k` variables in `b`.
 pub data Two : ℕ → Term → Term → Term → Type 0 where
@@ -58,3 +58,11 @@ unfolding Scoped
 under-scoped of-lam n s = s .1
 under-scoped of-pi n s = s .1
 under-scoped of-mu n s = s .1
+
+pub parts-named : {k : ℕ} {e a b : Term} → Two k e a b → (n : ℕ) → Named n e → Named n a × Named n b
+unfolding Named
+parts-named of-app n h = h
+parts-named of-castup n h = h
+parts-named of-lam n h = h
+parts-named of-pi n h = h
+parts-named of-mu n h = h

@@ -9,26 +9,27 @@ use lib.ListN.{length, take, drop, set, length-set}
 use lib.Seq.{take-take}
 use Rattle.calculus.specs.Term.{Term, star, size}
 use Rattle.calculus.specs.Answer.{Answer, ok}
-use Rattle.calculus.specs.Words.{words, longest}
+use Rattle.calculus.specs.Words.{words, longest, Worded}
 use Rattle.calculus.specs.Rules.{Context}
 use Rattle.calculus.specs.Infer.{infer}
 use Rattle.calculus.proofs.Coding.{size-positive, words-length}
 use Rattle.term.specs.Kept.{kept}
-use Rattle.inference.specs.Inference.{Subject, star-typed}
+use Rattle.inference.specs.Inference.{judge, Subject, star-typed}
 use Rattle.inference.proofs.Nodes.{Two, two-size}
 use Rattle.inference.proofs.Subjects.{behind, subject-long, subject-parts, first, second, under, replaced, still, place-first, place-second, part-words}
 use Rattle.inference.proofs.Passing.{Part, starred}
-use Rattle.inference.proofs.Types.{type-typed, type-fits}
+use Rattle.inference.proofs.Types.{type-typed, type-fits, type-worded}
 
 -- Both parts `a` and `b` of a node at `p` are typed, the second in the context Δ; its type lies at `from`.
 pub record Both (L : ℕ) (Γ Δ : Context) (p : ℕ) (a b : Term) (places : List ℕ) (depth : ℕ) (work : List ℕ) (top from n more m : ℕ) (after places′ : List ℕ) : Type 0 where
   pub type : Term
-  pub annotation : infer L Γ (suc p) a ≡ ok star
-  pub body : infer L Δ (suc p + size a) b ≡ ok type
+  pub annotation : judge L Γ (suc p) a ≡ ok star
+  pub body : judge L Δ (suc p + size a) b ≡ ok type
   pub read : n ≡ size a
   pub further : more ≡ size b
   pub long : m ≡ size type
   pub fits : size type ≤ L
+  pub has-words : L ≤ longest → Worded type
   pub lies : take (2 * m) (drop (2 * from) after) ≡ kept type
   pub front : take (2 * top) after ≡ take (2 * top) work
   pub context : take depth places′ ≡ take depth places
@@ -37,10 +38,10 @@ pub record Both (L : ℕ) (Γ Δ : Context) (p : ℕ) (a b : Term) (places : Lis
 module _ {Γ : Context} {e a : Term} {term sub places : List ℕ} {depth : ℕ} (S : Subject Γ e term sub places depth) (L : ℕ)
     {work : List ℕ} {top n m₁ : ℕ} {mid places₁ : List ℕ}
     (A : Part (star-typed L Γ (length term - length (behind 1 sub)) a) a places depth work top n m₁ mid places₁) where
-  is-star : infer L Γ (length term - length (behind 1 sub)) a ≡ ok star
+  is-star : judge L Γ (length term - length (behind 1 sub)) a ≡ ok star
   is-star = starred L Γ (length term - length (behind 1 sub)) a (A .found) .0
 
-  pub annotation-found : infer L Γ (suc (length term - length sub)) a ≡ ok star
+  pub annotation-found : judge L Γ (suc (length term - length sub)) a ≡ ok star
   annotation-found = rw (← place-first S) is-star
 
   behind-annotation : 1 + n ≡ 1 + size a
@@ -75,7 +76,7 @@ module _ {Γ : Context} {e a : Term} {term sub places : List ℕ} {depth : ℕ} 
   both : {k : ℕ} {Δ : Context} {b : Term} {places₂ : List ℕ} {depth₂ from more m : ℕ} {after places′ : List ℕ}
       → Two k e a b
       → Subject Δ b term (behind (1 + n) sub) places₂ depth₂
-      → Part (infer L Δ (length term - length (behind (1 + n) sub)) b) b places₂ depth₂ mid from more m after places′
+      → Part (judge L Δ (length term - length (behind (1 + n) sub)) b) b places₂ depth₂ mid from more m after places′
       → top ≤ from
       → take depth places′ ≡ take depth places
       → length places′ ≡ length places
@@ -89,6 +90,7 @@ module _ {Γ : Context} {e a : Term} {term sub places : List ℕ} {depth : ℕ} 
         further = B .read;
         long = B .long;
         fits = type-fits S₂ L _ (B .found);
+        has-words = type-worded S₂ L _ (B .found);
         lies = B .lies;
         front =
             sym (take-take (2 * top) (2 * from) after (omega arith))
@@ -101,7 +103,7 @@ module _ {Γ : Context} {e a : Term} {term sub places : List ℕ} {depth : ℕ} 
 
   pub both-beside : {b : Term} {more m : ℕ} {after places′ : List ℕ}
       → Two 0 e a b
-      → Part (infer L Γ (length term - length (behind (1 + n) sub)) b) b places₁ depth mid top more m after places′
+      → Part (judge L Γ (length term - length (behind (1 + n) sub)) b) b places₁ depth mid top more m after places′
       → Both L Γ Γ (length term - length sub) a b places depth work top top n more m after places′
   both-beside h B = both h (beside h) B (le-refl top) (B .context ∙ A .context) (B .wide ∙ A .wide)
 
@@ -125,7 +127,7 @@ module _ {Γ : Context} {e a : Term} {term sub places : List ℕ} {depth : ℕ} 
       → Two 1 e a b
       → place ≡ length term - length sub + 1
       → top ≤ from
-      → Part (infer L (a ∷ Γ) (length term - length (behind (1 + n) sub)) b) b (set places₁ depth place) (depth + 1) mid from more m after places′
+      → Part (judge L (a ∷ Γ) (length term - length (behind (1 + n) sub)) b) b (set places₁ depth place) (depth + 1) mid from more m after places′
       → Both L Γ (a ∷ Γ) (length term - length sub) a b places depth work top from n more m after places′
   both-below place h x t B = both h (below place h x) B t (below-context place B) (below-wide place B)
 

@@ -1,21 +1,31 @@
 -- The room of a part, and what the steps and the rewriting ask of what inference hands on. A part has a level less than its node, so
 -- that it needs one type's room less; a term in scope of the context within the limit is what the steps and the rewriting ask for,
 -- since no context is deeper than 64 annotations.
-use Prim.Native.Nat.{ℕ, _+_, _*_, _≤_, _<_}
+use Prim.Native.Nat.{ℕ, suc, _+_, _*_, _≤_, _<_}
 use mathlib.Core.Bool.{Bool, true}
-use mathlib.Core.List.{List}
+use mathlib.Core.List.{List, []}
 use mathlib.Core.Path.{_≡_, sym, subst, _∙_}
 use native.Mathlib.Nat.{suc-mul, mul-le-mul-right}
 use native.Mathlib.Omega.{arith}
 use lib.ListN.{length}
-use Rattle.calculus.specs.Term.{Term, var, star, app, lam, pi, castup, castdown, mu}
-use Rattle.calculus.specs.Words.{words, levels, Scoped, deepest}
+use Rattle.calculus.specs.Term.{Term, var, star, app, lam, pi, castup, castdown, mu, name, raise, size}
+use Rattle.calculus.specs.Words.{words, levels, Scoped, deepest, Worded, longest}
+use Rattle.calculus.proofs.Coding.{worded}
 use Rattle.calculus.specs.Rules.{Context}
-use Rattle.calculus.proofs.Scoping.{scoped-more}
+use Rattle.calculus.proofs.Scoping.{scoped-more, step-scoped}
 use Rattle.kept.specs.Rewriting.{Fits}
 use Rattle.inference.specs.Inference.{Subject, Roomy}
 use Rattle.inference.specs.Moving.{CodesWithin}
 use Rattle.inference.proofs.Subjects.{subject-long}
+use Rattle.calculus.specs.Kinds.{Kind}
+use Rattle.calculus.specs.Step.{next}
+use Rattle.calculus.specs.Book.{bodies}
+use Rattle.calculus.specs.Growing.{nothing-added}
+use Rattle.calculus.proofs.Soundness.{sound}
+use Rattle.calculus.proofs.Stepping.{next-step}
+use Rattle.calculus.proofs.Found.{raise-scoped}
+use Rattle.kept.proofs.InPlace.{raise-size}
+use Rattle.reduction.specs.Stepping.{next-of}
 
 levels-positive : (e : Term) → 1 ≤ levels e
 unfolding levels
@@ -27,6 +37,7 @@ levels-positive (pi a b) = omega arith
 levels-positive (castup a e) = omega arith
 levels-positive (castdown e) = omega arith
 levels-positive (mu a e) = omega arith
+levels-positive (name i) = omega arith
 
 pub castdown-levels : (e : Term) → levels e < levels (castdown e)
 unfolding levels
@@ -51,6 +62,18 @@ module _ {Γ : Context} {e : Term} {term sub places : List ℕ} {depth : ℕ} (S
   -- The subterm itself.
   pub subject-fits : Fits e
   subject-fits = record { short = omega (arith, subject-long S, S .within, S .short); scoped = deeper-scoped e own-scope }
+
+  pub subject-worded : Worded e
+  subject-worded = worded deepest e (subject-fits .scoped) (omega (arith, subject-fits .short))
+
+  -- Its next state, and it raised by one.
+  pub next-worded : {k : Kind} {x : Term} → next-of e ≡ next k x → size x ≤ longest → Worded x
+  next-worded {k} {x} h short =
+      let closed = sound nothing-added .closed .shut-bodies in
+      worded deepest x (step-scoped deepest closed (next-step (bodies []) e h .0) (subject-fits .scoped)) (omega (arith, short))
+
+  pub raised-worded : Worded (raise 1 0 e)
+  raised-worded = worded (suc deepest) (raise 1 0 e) (raise-scoped deepest 0 e (subject-fits .scoped)) (omega (arith, raise-size 1 0 e, subject-fits .short))
 
   pub subject-codes : {ws : List ℕ} (closed : Bool) → ws ≡ words e → (closed ≡ true → depth ≡ 0) → CodesWithin ws closed
   subject-codes closed x h =

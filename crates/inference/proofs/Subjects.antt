@@ -10,12 +10,13 @@ use native.Mathlib.Omega.{arith}
 use lib.ListN.{length, take, drop, getD, set, length-drop, length-set}
 use lib.Seq.{take-at, drop-at, drop-drop, take-take, take-set-le, getD-take, getD-set-same}
 use Rattle.calculus.specs.Term.{Term, star, castdown, size}
-use Rattle.calculus.specs.Words.{emit, words, levels, Scoped, longest, deepest}
-use Rattle.calculus.specs.Rules.{Context, WellFormed, env-var, _⊢_⦂_}
+use Rattle.calculus.specs.Words.{emit, words, levels, Scoped, Named, longest, deepest}
+use Rattle.calculus.specs.Book.{bodies}
+use Rattle.calculus.specs.Rules.{Context, WellFormed, env-var, _∣_∣_⊢_⦂_}
 use Rattle.calculus.proofs.Coding.{emit-append, emit-length, words-length, size-positive}
 use Rattle.term.proofs.Finding.{from-on}
 use Rattle.inference.specs.Inference.{Subject, Placed}
-use Rattle.inference.proofs.Nodes.{Two, two-size, two-levels, two-emit, first-scoped, second-scoped, under-scoped}
+use Rattle.inference.proofs.Nodes.{Two, two-size, two-levels, two-emit, first-scoped, second-scoped, under-scoped, parts-named}
 
 -- The words from the `k`th on, as the code takes them.
 abbrev pub behind : ℕ → List ℕ → List ℕ
@@ -79,11 +80,12 @@ module _ {Γ : Context} {e : Term} {term sub places : List ℕ} {depth : ℕ} (S
       → depth′ ≡ length Γ′
       → length places′ ≡ deepest
       → Placed term Γ′ places′
-      → WellFormed Γ′
+      → WellFormed [] (bodies []) Γ′
       → Scoped depth′ a
+      → Named 0 a
       → depth′ + levels a ≤ deepest
       → Subject Γ′ a term (behind k sub) places′ depth′
-  at-end k r h x d v p w s l =
+  at-end k r h x d v p w s n l =
       record {
         rest = r;
         begins = from-on sub k ∙ x;
@@ -99,6 +101,7 @@ module _ {Γ : Context} {e : Term} {term sub places : List ℕ} {depth : ℕ} (S
         placed = p;
         well-formed = w;
         scoped = s;
+        named = n;
         deep = l;
       }
 
@@ -119,6 +122,7 @@ module _ {Γ : Context} {e : Term} {term sub places : List ℕ} {depth : ℕ} (S
         placed = placed-kept term Γ places places′ depth (omega (arith, S .around)) x (S .placed);
         well-formed = S .well-formed;
         scoped = S .scoped;
+        named = S .named;
         deep = S .deep;
       }
 
@@ -139,7 +143,7 @@ module _ {Γ : Context} {e : Term} {term sub places : List ℕ} {depth : ℕ} (S
     pub first : Subject Γ a term (behind 1 sub) places depth
     first =
         at-end 1 (emit b (S .rest)) (omega (arith, subject-long, two-size h)) first-words (S .around) (S .wide) (S .placed)
-        (S .well-formed) (first-scoped h depth (S .scoped)) (omega (arith, two-levels h, S .deep))
+        (S .well-formed) (first-scoped h depth (S .scoped)) (parts-named h 0 (S .named) .0) (omega (arith, two-levels h, S .deep))
 
     pub place-second : (from : ℕ) → from ≡ 1 + size a → length term - length (behind from sub) ≡ suc (length term - length sub) + size a
     place-second from x = omega (arith, further from (omega (arith, subject-long, two-size h)))
@@ -151,30 +155,30 @@ module _ {Γ : Context} {e : Term} {term sub places : List ℕ} {depth : ℕ} (S
 pub inside : {Γ : Context} {e : Term} {term sub places : List ℕ} {depth : ℕ}
     → Subject Γ (castdown e) term sub places depth
     → Subject Γ e term (behind 1 sub) places depth
-unfolding emit levels Scoped
+unfolding emit levels Scoped Named
 inside S =
     at-end S 1 (S .rest) (subject-some S) (ap (drop 1) (S .begins)) (S .around) (S .wide) (S .placed) (S .well-formed) (S .scoped)
-    (omega (arith, S .deep))
+    (S .named) (omega (arith, S .deep))
 
 module _ {Γ : Context} {e a b : Term} {term sub places : List ℕ} {depth : ℕ} (S : Subject Γ e term sub places depth) where
   pub second : (from : ℕ) → Two 0 e a b → from ≡ 1 + size a → Subject Γ b term (behind from sub) places depth
   second from h x =
       at-end S from (S .rest) (omega (arith, subject-long S, two-size h)) (ap (λ n. drop n sub) x ∙ second-words S h) (S .around)
-      (S .wide) (S .placed) (S .well-formed) (second-scoped h depth (S .scoped)) (omega (arith, two-levels h, S .deep))
+      (S .wide) (S .placed) (S .well-formed) (second-scoped h depth (S .scoped)) (parts-named h 0 (S .named) .1) (omega (arith, two-levels h, S .deep))
 
   -- The same under the first part, whose place is written.
   pub under : (from place : ℕ)
       → Two 1 e a b
       → from ≡ 1 + size a
       → place ≡ length term - length sub + 1
-      → Γ ⊢ a ⦂ star
+      → [] ∣ bodies [] ∣ Γ ⊢ a ⦂ star
       → Subject (a ∷ Γ) b term (behind from sub) (set places depth place) (depth + 1)
   unfolding Placed
   under from place h x y t =
       at-end S from (S .rest) (omega (arith, subject-long S, two-size h)) (ap (λ n. drop n sub) x ∙ second-words S h)
       (omega (arith, S .around)) (length-set places depth place ∙ S .wide)
       ((emit b (S .rest), ap (λ n. drop n term) at-place ∙ begins), omega (arith, at-place, subject-long S, two-size h, S .within), others)
-      (env-var (S .well-formed) t) (rw add-one (under-scoped h depth (S .scoped))) (omega (arith, two-levels h, S .deep))
+      (env-var (S .well-formed) t) (rw add-one (under-scoped h depth (S .scoped))) (parts-named h 0 (S .named) .1) (omega (arith, two-levels h, S .deep))
     where
       at-place : getD (set places depth place) (length Γ) 0 ≡ length term - length sub + 1
       at-place = ap (λ n. getD (set places depth place) n 0) (sym (S .around)) ∙ getD-set-same places depth place 0 (omega (arith, two-levels h, S .deep, S .wide)) ∙ y

@@ -8,6 +8,7 @@ use native.Mathlib.Omega.{arith}
 use lib.ListN.{length, drop, getD}
 use Rattle.calculus.specs.Term.{Term, var, star, size, raise}
 use Rattle.calculus.specs.Words.{emit, Scoped}
+use Rattle.calculus.specs.Book.{bodies}
 use Rattle.calculus.specs.Rules.{Context, WellFormed, env-var}
 use Rattle.calculus.specs.Infer.{infer, measure, annotation}
 use Rattle.calculus.proofs.Bridge.{raise-moves, raise-more}
@@ -15,7 +16,7 @@ use Rattle.calculus.proofs.Testing.{fitting, over}
 use Rattle.calculus.proofs.Types as types
 use Rattle.calculus.proofs.Scoping.{scoped-more}
 use Rattle.inference.specs.declared.Inferred.{Inferred}
-use Rattle.inference.specs.Inference.{Subject, Placed, Annotation, Raises, Infers, refuses}
+use Rattle.inference.specs.Inference.{judge, Subject, Placed, Annotation, Raises, Infers, refuses}
 use Rattle.inference.proofs.Passing.{found}
 use Rattle.inference.proofs.Putting.{within-or-over}
 use Rattle.kept.proofs.InPlace.{raise-size}
@@ -35,7 +36,7 @@ annotation-raised (τ ∷ Γ) zero h = refl
 annotation-raised (τ ∷ Γ) (suc i) h =
     ap (raise 1 0) (annotation-raised Γ i (le-of-suc-le-suc h)) ∙ raise-moves _ ∙ raise-more (suc i) (standing Γ i)
 
-standing-scoped : (Γ : Context) (i : ℕ) → WellFormed Γ → i < length Γ → Scoped (length Γ) (standing Γ i)
+standing-scoped : (Γ : Context) (i : ℕ) → WellFormed [] (bodies []) Γ → i < length Γ → Scoped (length Γ) (standing Γ i)
 unfolding standing
 standing-scoped [] i w h = absurd (omega arith)
 standing-scoped (τ ∷ Γ) zero (env-var w t) h = scoped-more τ (omega arith) (types.scoped t)
@@ -79,7 +80,7 @@ module _ {Γ : Context} {i : ℕ} {term sub places : List ℕ} {depth : ℕ} (S 
   pub infers-annotation : {L p : ℕ} {work : List ℕ} {top : ℕ} {r : Inferred} {after : List ℕ}
       → 2 * (top + L) ≤ length work
       → Raises (standing Γ i) i p L work top r after
-      → Infers (infer L Γ p (var i)) (var i) places depth work top r after places
+      → Infers (judge L Γ p (var i)) (var i) places depth work top r after places
   unfolding infer size
   infers-annotation {L} {p} {work} room R =
       within-or-over (standing Γ i) L

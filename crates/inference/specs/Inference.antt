@@ -6,13 +6,19 @@ use lib.ListN.{length, take, drop, getD}
 use lib.Seq.{sets}
 use Rattle.calculus.specs.Term.{Term, star, size, raise}
 use Rattle.calculus.specs.Answer.{Answer, ok, refused, _>>=_, _>>_, require, Reason, not-star, over-limit}
-use Rattle.calculus.specs.Words.{emit, levels, Scoped, longest, deepest}
+use Rattle.calculus.specs.Words.{emit, levels, Scoped, Named, longest, deepest}
+use Rattle.calculus.specs.Book.{types, bodies}
 use Rattle.calculus.specs.Rules.{Context, WellFormed}
 use Rattle.calculus.specs.Infer.{infer, same}
 use Rattle.term.specs.Kept.{kept}
+use Rattle.reduction.specs.Stepping.{next-of}
 use Rattle.term.specs.Reasons.{reason-of}
 use Rattle.inference.specs.declared.Inferred.{Inferred}
 use Rattle.inference.specs.declared.Inferred.the-variants as inferred
+
+-- Inference over the empty book.
+abbrev pub judge : ℕ → Context → ℕ → Term → Answer Term
+judge = infer (types []) next-of
 
 -- The annotations of Γ stand in the term at the places listed, outermost first.
 unfoldable pub Placed : List ℕ → Context → List ℕ → Type 0
@@ -32,8 +38,9 @@ pub record Subject (Γ : Context) (e : Term) (term sub places : List ℕ) (depth
   pub around : depth ≡ length Γ
   pub wide : length places ≡ deepest
   pub placed : Placed term Γ places
-  pub well-formed : WellFormed Γ
+  pub well-formed : WellFormed [] (bodies []) Γ
   pub scoped : Scoped depth e
+  pub named : Named 0 e
   pub deep : depth + levels e ≤ deepest
 
 -- A type for each level of `e`, and one more.
@@ -64,7 +71,7 @@ pub data Infers : Answer Term → Term → List ℕ → ℕ → List ℕ → ℕ
 -- The type of a part that has to be star, else 10.
 unfoldable pub star-typed : ℕ → Context → ℕ → Term → Answer Term
 star-typed L Γ p e = do
-  σ ← infer L Γ p e
+  σ ← judge L Γ p e
   require not-star p (same σ star)
   ok star
 
@@ -85,7 +92,7 @@ Tells judge c term sub places depth work top limit r after places′ = (Γ : Con
 
 abbrev pub Tells₂ : (Term → Term → Term) → List ℕ → List ℕ → List ℕ → ℕ → List ℕ → ℕ → ℕ → Inferred → List ℕ → List ℕ → Type 0
 Tells₂ c term sub places depth work top limit r after places′ = (Γ : Context) (a e : Term) → Subject Γ (c a e) term sub places depth
-    → Infers (infer limit Γ (length term - length sub) (c a e)) (c a e) places depth work top r after places′
+    → Infers (judge limit Γ (length term - length sub) (c a e)) (c a e) places depth work top r after places′
 
 -- The annotation `a` stands at `from`; all but its first `index` + 1 binders are around it.
 pub record Annotation (a : Term) (index : ℕ) (term : List ℕ) (from : ℕ) : Type 0 where

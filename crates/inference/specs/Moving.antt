@@ -14,7 +14,7 @@ use Rattle.term.specs.Kept.{Lies, kept}
 use Rattle.reduction.specs.declared.stepping.Kind.{Kind}
 use Rattle.reduction.specs.declared.stepping.Stepped.{Stepped}
 use Rattle.reduction.specs.declared.stepping.Stepped.the-variants as stepped
-use Rattle.reduction.specs.Stepping.{kind-of}
+use Rattle.reduction.specs.Stepping.{next-of, kind-of}
 use Rattle.inference.specs.declared.moving.Applied.{Applied}
 use Rattle.inference.specs.declared.moving.Applied.the-variants as applied
 
@@ -85,8 +85,8 @@ Moves (calculus.next k x) work top limit r after =
 
 -- "the annotation steps, else 13; the stepped annotation is measured".
 abbrev pub StepsInto : Term → List ℕ → ℕ → ℕ → Stepped → List ℕ → Type 0
-StepsInto a = Moves (calculus.step a)
+StepsInto a = Moves (next-of a)
 
 -- "its type steps, else 13; the stepped type".
 abbrev pub StepsType : Term → List ℕ → ℕ → ℕ → Stepped → List ℕ → Type 0
-StepsType σ = Moves (calculus.step σ)
+StepsType σ = Moves (next-of σ)

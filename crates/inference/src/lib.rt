@@ -21,9 +21,8 @@ ghost use Prim.Native.Nat.{_+_, _*_, _≤_};
 ghost use lib.ListN.{length};
 ghost use Rattle.calculus.specs.Term.{Term, app, castdown, castup, lam, mu, pi};
 ghost use Rattle.calculus.specs.Words.{longest};
-ghost use Rattle.calculus.specs.Infer.{infer};
 ghost use Rattle.inference.specs.Moving.{held-room};
-ghost use Rattle.inference.specs.Inference.{Annotation, Asks, Asks₂, Raises, Tells, Tells₂, star-typed};
+ghost use Rattle.inference.specs.Inference.{Annotation, Asks, Asks₂, Raises, Tells, Tells₂, judge, star-typed};
 
 mod comparing;
 mod moving;
@@ -280,7 +279,7 @@ fn cast_down(
 ) -> Inferred
     requires { ⌜ length (now held) ≡ held-room ⌝ }
     requires { ⌜ Asks castdown (now term) (now sub) (now context) depth (now work) top limit ⌝ }
-    ensures { λ r. ⌜ Tells infer castdown (now (term .entry)) (now (sub .entry)) (now (context .entry)) depth (now (work .entry)) top limit r (now (work .exit)) (now (context .exit)) ⌝ }
+    ensures { λ r. ⌜ Tells judge castdown (now (term .entry)) (now (sub .entry)) (now (context .entry)) depth (now (work .entry)) top limit r (now (work .exit)) (now (context .exit)) ⌝ }
 {
     let place = term.len() - sub.len();
     let body = infer(term, &sub[1..], context, depth, work, top, limit, held);
@@ -357,7 +356,7 @@ pub fn infer(
 ) -> Inferred
     requires { ⌜ length (now held) ≡ held-room ⌝ }
     requires { ⌜ Asks (λ e. e) (now term) (now sub) (now context) depth (now work) top limit ⌝ }
-    ensures { λ r. ⌜ Tells infer (λ e. e) (now (term .entry)) (now (sub .entry)) (now (context .entry)) depth (now (work .entry)) top limit r (now (work .exit)) (now (context .exit)) ⌝ }
+    ensures { λ r. ⌜ Tells judge (λ e. e) (now (term .entry)) (now (sub .entry)) (now (context .entry)) depth (now (work .entry)) top limit r (now (work .exit)) (now (context .exit)) ⌝ }
 {
     let place = term.len() - sub.len();
     match classify(sub[0]) {

@@ -12,7 +12,7 @@ ghost use mathlib.Core.Path.{_≡_};
 ghost use Prim.Native.Nat.{_+_, _*_, _≤_};
 ghost use lib.ListN.{drop, length, take};
 ghost use Rattle.calculus.specs.Term.{Term, pi, size};
-ghost use Rattle.calculus.specs.Words.{longest, words};
+ghost use Rattle.calculus.specs.Words.{Worded, longest, words};
 ghost use Rattle.term.specs.Kept.{Lies, kept};
 ghost use Rattle.reduction.specs.Stepping.{HeldWithin};
 ghost use Rattle.inference.specs.Moving.{Applies, CodesWithin, Codomain, HeldPair, Product, Puts, StepsInto, StepsType, held-room};
@@ -35,7 +35,7 @@ fn put_held(
     limit: usize,
 ) -> Applied
     requires { ⌜ (2 * (top + limit) ≤ length (now work)) × (limit ≤ longest) × HeldPair (now held) count closed ⌝ }
-    ensures { λ r. ⌜ ((b u : Term) → Lies b (now (held .entry)) 0 → Lies u (now (held .entry)) longest → Puts b u (now (work .entry)) top limit r (now (work .exit))) ⌝ }
+    ensures { λ r. ⌜ ((b u : Term) → Lies b (now (held .entry)) 0 → Worded b → Lies u (now (held .entry)) longest → Worded u → Puts b u (now (work .entry)) top limit r (now (work .exit))) ⌝ }
 {
     let to = 1024 + count;
     let end = top + limit;
@@ -66,7 +66,7 @@ fn put_in(
 ) -> Applied
     requires { ⌜ length (now held) ≡ held-room ⌝ }
     requires { ⌜ (2 * (top + limit) ≤ length (now work)) × (limit ≤ longest) × Codomain (now work) codomain next × CodesWithin (now argument) closed ⌝ }
-    ensures { λ r. ⌜ ((b u : Term) → take (2 * size b) (drop (2 * codomain) (now (work .entry))) ≡ kept b → next ≡ codomain + size b → now (argument .entry) ≡ words u → Puts b u (now (work .entry)) top limit r (now (work .exit))) ⌝ }
+    ensures { λ r. ⌜ ((b u : Term) → take (2 * size b) (drop (2 * codomain) (now (work .entry))) ≡ kept b → Worded b → next ≡ codomain + size b → now (argument .entry) ≡ words u → Worded u → Puts b u (now (work .entry)) top limit r (now (work .exit))) ⌝ }
 {
     copy(&work[2 * codomain..2 * next], held, 0);
     note(argument, held, 1024);
@@ -87,7 +87,7 @@ pub(crate) fn apply(
 ) -> Applied
     requires { ⌜ length (now held) ≡ held-room ⌝ }
     requires { ⌜ (2 * (top + limit) ≤ length (now work)) × (limit ≤ longest) × (2 * (top + count + own) ≤ length (now work)) × Product (take (2 * count) (drop (2 * top) (now work))) × CodesWithin (now argument) closed ⌝ }
-    ensures { λ r. ⌜ ((a b u σ : Term) → take (2 * count) (drop (2 * top) (now (work .entry))) ≡ kept (pi a b) → now (argument .entry) ≡ words u → take (2 * own) (drop (2 * (top + count)) (now (work .entry))) ≡ kept σ → Applies a b u σ (now (work .entry)) top limit r (now (work .exit))) ⌝ }
+    ensures { λ r. ⌜ ((a b u σ : Term) → take (2 * count) (drop (2 * top) (now (work .entry))) ≡ kept (pi a b) → Worded (pi a b) → now (argument .entry) ≡ words u → Worded u → take (2 * own) (drop (2 * (top + count)) (now (work .entry))) ≡ kept σ → Worded σ → Applies a b u σ (now (work .entry)) top limit r (now (work .exit))) ⌝ }
 {
     let domain = top + 1;
     let codomain = domain + length_at(work, domain);
@@ -102,7 +102,7 @@ pub(crate) fn apply(
 // The next state of a kept one, written at `top` within the limit.
 fn step_held(state: &[u16], closed: bool, work: &mut [u16], top: usize, limit: usize) -> Stepped
     requires { ⌜ (2 * (top + limit) ≤ length (now work)) × (limit ≤ longest) × HeldWithin (now state) closed ⌝ }
-    ensures { λ r. ⌜ ((b : Term) → now (state .entry) ≡ kept b → StepsType b (now (work .entry)) top limit r (now (work .exit))) ⌝ }
+    ensures { λ r. ⌜ ((b : Term) → now (state .entry) ≡ kept b → Worded b → StepsType b (now (work .entry)) top limit r (now (work .exit))) ⌝ }
 {
     let end = top + limit;
     step(state, closed, &mut work[2 * top..2 * end])
@@ -119,7 +119,7 @@ pub(crate) fn step_into(
 ) -> Stepped
     requires { ⌜ length (now held) ≡ held-room ⌝ }
     requires { ⌜ (2 * (top + limit) ≤ length (now work)) × (limit ≤ longest) × CodesWithin (now state) closed ⌝ }
-    ensures { λ r. ⌜ ((b : Term) → now (state .entry) ≡ words b → StepsInto b (now (work .entry)) top limit r (now (work .exit))) ⌝ }
+    ensures { λ r. ⌜ ((b : Term) → now (state .entry) ≡ words b → Worded b → StepsInto b (now (work .entry)) top limit r (now (work .exit))) ⌝ }
 {
     note(state, held, 0);
     let count = state.len();
@@ -137,7 +137,7 @@ pub(crate) fn step_type(
 ) -> Stepped
     requires { ⌜ length (now held) ≡ held-room ⌝ }
     requires { ⌜ (2 * (top + limit) ≤ length (now work)) × (limit ≤ longest) × (2 * (top + count) ≤ length (now work)) × HeldWithin (take (2 * count) (drop (2 * top) (now work))) closed ⌝ }
-    ensures { λ r. ⌜ ((b : Term) → take (2 * count) (drop (2 * top) (now (work .entry))) ≡ kept b → StepsType b (now (work .entry)) top limit r (now (work .exit))) ⌝ }
+    ensures { λ r. ⌜ ((b : Term) → take (2 * count) (drop (2 * top) (now (work .entry))) ≡ kept b → Worded b → StepsType b (now (work .entry)) top limit r (now (work .exit))) ⌝ }
 {
     let end = top + count;
     copy(&work[2 * top..2 * end], held, 0);

@@ -1,12 +1,12 @@
--- Terms without variables: raising and substitution leave them as they are. A subterm is known to be one by its survey, where the
--- first variable at or behind its node stands behind the subterm. Along with it: what is known of a node holds of its parts.
+-- Terms without variables and names: raising and substitution leave them as they are. A subterm is known to be one by its survey, where
+-- the first variable or name at or behind its node stands behind the subterm. Along with it: what is known of a node holds of its parts.
 use Prim.Native.Nat.{ℕ, suc, _+_, _-_, _≤_, _<_}
 use mathlib.Core.List.{List, _∷_}
 use mathlib.Core.Path.{_≡_, refl, ap, ap₂, _∙_, subst}
 use native.Mathlib.Omega.{arith}
 use borrow.Author.Tests.{lt-ltb, le-ltb}
 use lib.ListN.{getD}
-use Rattle.calculus.specs.Term.{Term, var, star, app, lam, pi, castup, castdown, mu, size, raise, substitute}
+use Rattle.calculus.specs.Term.{Term, var, star, app, lam, pi, castup, castdown, mu, name, size, raise, substitute}
 use Rattle.calculus.specs.Words.{Scoped, deepest}
 use Rattle.calculus.proofs.Coding.{size-positive}
 use Rattle.term.specs.Kept.{keep, Lies}
@@ -20,6 +20,7 @@ use Rattle.kept.specs.Rewriting.{clear-run, Subject, Surveyed}
 pub data Built : Term → Type 0 where
   of-variable : (i : ℕ) → Built (var i)
   of-star : Built star
+  of-name : (i : ℕ) → Built (name i)
   of-one : {e : Term} → Built e → Built (castdown e)
   of-two : {c : Term → Term → Term} {w k : ℕ} {a b : Term} → Two c w k → Built a → Built b → Built (c a b)
 
@@ -32,6 +33,7 @@ built (pi a b) = of-two two-pi (built a) (built b)
 built (castup a e) = of-two two-castup (built a) (built e)
 built (castdown e) = of-one (built e)
 built (mu a e) = of-two two-mu (built a) (built e)
+built (name i) = of-name i
 
 pub data NoVariable : Term → Type 0 where
   no-star : NoVariable star
@@ -52,7 +54,7 @@ substitute-clear d u (no-one h) = ap castdown (substitute-clear d u h)
 substitute-clear d u (no-two {c} {w} {k} {a} {b} two h j) =
     substitute-two two d u a b ∙ ap₂ c (substitute-clear d u h) (substitute-clear (d + k) u j)
 
--- The run of nodes without a variable: a node that is none counts one more, a variable ends it.
+-- The run of nodes without a variable or name: a node that is neither counts one more, each of these ends it.
 pub run-more : (w l : ℕ) (ws : List ℕ) (n : ℕ) → w < 16 → clear-run (w ∷ l ∷ ws) (suc n) ≡ suc (clear-run ws n)
 unfolding clear-run
 run-more w l ws n h = rw (lt-ltb w 16 h) refl
@@ -72,7 +74,7 @@ run-one : (e : Term) (r : List ℕ) (n : ℕ) → clear-run (keep (castdown e) r
 unfolding keep
 run-one e r n = run-more 1 (size (castdown e)) (keep e r) n (omega arith)
 
--- So the run goes through a term without variables and on behind it,
+-- So the run goes through a term without variables and names and on behind it,
 run-through : {e : Term} → NoVariable e → (r : List ℕ) (n : ℕ) → clear-run (keep e r) (size e + n) ≡ size e + clear-run r n
 unfolding keep size
 run-through no-star r n =
@@ -94,6 +96,9 @@ run-clear (of-variable i) r n h =
     let sum : 1 + n ≡ suc n = omega arith in
     absurd (omega (arith, h, ap (clear-run ((16 + i) ∷ 1 ∷ r)) sum, run-ends (16 + i) 1 r n (omega arith)))
 run-clear of-star r n h = no-star
+run-clear (of-name i) r n h =
+    let sum : 1 + n ≡ suc n = omega arith in
+    absurd (omega (arith, h, ap (clear-run ((2048 + i) ∷ 1 ∷ r)) sum, run-ends (2048 + i) 1 r n (omega arith)))
 run-clear (of-one {e} p) r n h =
     let sum : suc (size e) + n ≡ suc (size e + n) = omega arith in
     no-one (run-clear p r n (omega (arith, h, ap (clear-run (keep (castdown e) r)) sum, run-one e r (size e + n))))
@@ -111,7 +116,7 @@ clear-of e r n short h =
     let sum : n ≡ size e + (n - size e) = omega arith in
     run-clear (built e) r (n - size e) (omega (arith, h, ap (clear-run (keep e r)) sum))
 
--- By its survey, a subterm that ends at or before the first variable has none.
+-- By its survey, a subterm that ends at or before the first variable or name has none.
 pub surveyed-clear : {e : Term} {slice : List ℕ} {node : ℕ} {first : List ℕ}
     → Lies e slice node
     → Surveyed e slice node first

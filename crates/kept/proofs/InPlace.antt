@@ -7,18 +7,18 @@ use native.Mathlib.Omega.{arith}
 use borrow.Author.Tests.{lt-ltb, le-ltb}
 use lib.ListN.{length, take, drop, getD, set, take-append-drop, drop-of-length-le}
 use lib.Seq.{sets, sets-eq, set-getD, getD-set-other, drop-set-lt, drop-drop}
-use Rattle.calculus.specs.Term.{Term, var, star, castdown, size, raise}
-use Rattle.calculus.specs.Words.{Scoped}
+use Rattle.calculus.specs.Term.{Term, var, star, castdown, name, size, raise}
+use Rattle.calculus.specs.Words.{Worded, deepest}
 use Rattle.calculus.specs.Meaning.{binds, meaning}
-use Rattle.calculus.proofs.Coding.{size-positive}
+use Rattle.calculus.proofs.Coding.{size-positive, worded}
 use Rattle.calculus.proofs.Scoping.{scoped-more}
 use Rattle.calculus.proofs.Stores.{sets-append}
 use Rattle.term.specs.Kept.{keep, kept, Lies, word-at, length-at}
-use Rattle.term.proofs.Nodes.{Two, View, a-variable, a-star, one-part, two-parts, view, keep-two, size-two, raise-two, binds-two}
+use Rattle.term.proofs.Nodes.{Two, View, a-variable, a-star, a-name, one-part, two-parts, view, keep-two, size-two, raise-two, binds-two}
 use Rattle.term.proofs.Keeping.{keep-append, kept-length, lies-within, lies-length, lies-taken, lies-word, lies-castdown}
-use Rattle.term.proofs.Keeping.{lies-star, lies-variable, lies-whole}
+use Rattle.term.proofs.Keeping.{lies-star, lies-variable, lies-name, lies-whole}
 use Rattle.kept.specs.Rewriting.{clear-run, FirstVariables, Fits, Subject, Surveyed}
-use Rattle.kept.proofs.Clear.{Built, of-variable, of-star, of-one, of-two, built, raise-clear, surveyed-clear}
+use Rattle.kept.proofs.Clear.{Built, of-variable, of-star, of-name, of-one, of-two, built, raise-clear, surveyed-clear}
 use Rattle.kept.proofs.Clear.{surveyed-first, surveyed-second, surveyed-body, subject-first, subject-second}
 use Rattle.kept.proofs.Clear.{subject-body}
 
@@ -26,6 +26,7 @@ raised-size : {t : Term} → Built t → (n d : ℕ) → size (raise n d t) ≡ 
 unfolding size raise
 raised-size (of-variable i) n d = refl
 raised-size of-star n d = refl
+raised-size (of-name i) n d = refl
 raised-size (of-one p) n d = ap suc (raised-size p n d)
 raised-size (of-two {c} {w} {k} {a} {b} two p q) n d =
     ap size (raise-two two n d a b)
@@ -86,30 +87,29 @@ module _ (slice : List ℕ) (n : ℕ) where
 data Leaf : Term → Type 0 where
   variable-leaf : (i : ℕ) → Leaf (var i)
   star-leaf : Leaf star
+  name-leaf : (i : ℕ) → Leaf (name i)
 
 leaf : {t : Term} → View t → size t ≡ 1 → Leaf t
 unfolding size
 leaf (a-variable i) h = variable-leaf i
 leaf a-star h = star-leaf
+leaf (a-name i) h = name-leaf i
 leaf (one-part e) h = absurd (omega (arith, h, size-positive e))
 leaf (two-parts two a b) h = absurd (omega (arith, h, size-two two a b, size-positive a))
-
-leaf-word : {t : Term} {slice : List ℕ} {n d : ℕ} → Leaf t → Subject t slice n d → word-at slice n < 81 + d
-unfolding Scoped
-leaf-word (variable-leaf i) s = omega (arith, lies-variable (s .lies), s .scoped)
-leaf-word star-leaf s = omega (arith, lies-star (s .lies))
 
 leaf-raised : {t : Term} {slice : List ℕ} {n : ℕ} → Leaf t → (by d : ℕ)
     → Lies t slice n
     → 16 + d ≤ word-at slice n
+    → word-at slice n < 2048
     → set slice (2 * n) (word-at slice n + by) ≡ sets slice (2 * n) (kept (raise by d t))
 unfolding kept keep raise size
-leaf-raised {slice = slice} {n = n} (variable-leaf i) by d l h =
+leaf-raised {slice = slice} {n = n} (variable-leaf i) by d l h low =
     let word : word-at slice n + by ≡ 16 + (i + by) = omega (arith, lies-variable l) in
     rw
     (le-ltb i d (omega (arith, h, lies-variable l)))
     (ap (set slice (2 * n)) word ∙ store-leaf slice n (16 + (i + by)) (lies-length l))
-leaf-raised star-leaf by d l h = absurd (omega (arith, h, lies-star l))
+leaf-raised star-leaf by d l h low = absurd (omega (arith, h, lies-star l))
+leaf-raised (name-leaf i) by d l h low = absurd (omega (arith, low, lies-name l))
 
 leaf-same : {t : Term} {slice : List ℕ} {n : ℕ} → Leaf t → (by d : ℕ)
     → Lies t slice n
@@ -118,16 +118,26 @@ leaf-same : {t : Term} {slice : List ℕ} {n : ℕ} → Leaf t → (by d : ℕ)
 unfolding raise
 leaf-same (variable-leaf i) by d l h = rw (lt-ltb i d (omega (arith, h, lies-variable l))) refl
 leaf-same star-leaf by d l h = refl
+leaf-same (name-leaf i) by d l h = refl
+
+-- From 2,048 on a word is a name, which is the same raised: a variable has a word below.
+leaf-named : {t : Term} {slice : List ℕ} {n : ℕ} → Leaf t → (by d : ℕ)
+    → Lies t slice n
+    → Worded t
+    → 2048 ≤ word-at slice n
+    → raise by d t ≡ t
+unfolding raise Worded
+leaf-named (variable-leaf i) by d l has h = absurd (omega (arith, h, has, lies-variable l))
+leaf-named star-leaf by d l has h = refl
+leaf-named (name-leaf i) by d l has h = refl
 
 -- A leaf at a node, by the word that is looked at there.
 module _ {t : Term} {slice : List ℕ} {n : ℕ} where
-  pub word-small : {d : ℕ} → Subject t slice n d → size t ≡ 1 → word-at slice n < 81 + d
-  word-small s one = leaf-word (leaf (view t) one) s
-
   pub free-raised : (by d : ℕ)
       → Lies t slice n
       → size t ≡ 1
       → 16 + d ≤ word-at slice n
+      → word-at slice n < 2048
       → set slice (2 * n) (word-at slice n + by) ≡ sets slice (2 * n) (kept (raise by d t))
   free-raised by d l one = leaf-raised (leaf (view t) one) by d l
 
@@ -138,6 +148,15 @@ module _ {t : Term} {slice : List ℕ} {n : ℕ} where
       → slice ≡ sets slice (2 * n) (kept (raise by d t))
   bound-raised by d l one h =
       sym (stores-same l) ∙ ap (λ x. sets slice (2 * n) (kept x)) (sym (leaf-same (leaf (view t) one) by d l h))
+
+  pub name-raised : (by d : ℕ)
+      → Lies t slice n
+      → Worded t
+      → size t ≡ 1
+      → 2048 ≤ word-at slice n
+      → slice ≡ sets slice (2 * n) (kept (raise by d t))
+  name-raised by d l has one h =
+      sym (stores-same l) ∙ ap (λ x. sets slice (2 * n) (kept x)) (sym (leaf-named (leaf (view t) one) by d l has h))
 
   -- A part that is passed over.
   pub clear-raised : {first : List ℕ} (by d : ℕ)
@@ -252,6 +271,7 @@ parted-view : {e : Term} {slice : List ℕ} {n d : ℕ} {first : List ℕ} (by :
 unfolding size
 parted-view by (a-variable i) s v h = absurd (omega (arith, h))
 parted-view by a-star s v h = absurd (omega (arith, h))
+parted-view by (a-name i) s v h = absurd (omega (arith, h))
 parted-view {d = d} by (one-part e) s v h =
     let one = ap (λ w. binds (meaning w)) (lies-castdown (s .lies)) ∙ binds-castdown in
     record {
@@ -281,6 +301,13 @@ pub parted : {e : Term} {slice : List ℕ} {n d : ℕ} {first : List ℕ} (by : 
     → 1 < size e
     → Parted by slice n d first e
 parted {e} by s v h = parted-view by (view e) s v h
+
+-- The indices of a subject have words: it stands under few variables and binders.
+pub subject-worded : {e : Term} {slice : List ℕ} {n d : ℕ} → Subject e slice n d → Worded e
+subject-worded {e} {d = d} s = worded (suc deepest + d) e (s .scoped) (omega (arith, s .near))
+
+pub fits-worded : {e : Term} → Fits e → Worded e
+fits-worded {e} f = worded deepest e (f .scoped) (omega (arith, f .short))
 
 -- The whole slice.
 module _ {e : Term} {slice : List ℕ} (coded : slice ≡ kept e) where

@@ -9,7 +9,7 @@ use native.Mathlib.Numerals.{add-one}
 use native.Mathlib.Omega.{arith}
 use lib.ListN.{length, take, drop, getD, set, length-append, length-take, drop-of-length-le, List·getD-append}
 use lib.Seq.{sets, sets-eq, set-comm, drop-nil, drop-cons, drop-length, length-take-le, getD-append-add}
-use Rattle.calculus.specs.Term.{Term, var, star, app, lam, pi, castup, castdown, mu, size}
+use Rattle.calculus.specs.Term.{Term, var, star, app, lam, pi, castup, castdown, mu, name, size}
 use Rattle.calculus.specs.Words.{emit, words}
 use Rattle.calculus.specs.Meaning.{meaning, binds}
 use Rattle.term.specs.Kept.{keep, kept, length-at}
@@ -38,6 +38,7 @@ noted-keep (pi a b) k = node _ (span-emit (pi a b) k) (noted-keep a (emit b k) �
 noted-keep (castup a e) k = node _ (span-emit (castup a e) k) (noted-keep a (emit e k) ∙ ap (keep a) (noted-keep e k))
 noted-keep (castdown e) k = node _ (span-emit (castdown e) k) (noted-keep e k)
 noted-keep (mu a e) k = node _ (span-emit (mu a e) k) (noted-keep a (emit e k) ∙ ap (keep a) (noted-keep e k))
+noted-keep (name i) k = node _ (span-emit (name i) k) refl
 
 pub noted-kept : (t : Term) → noted-words (words t) ≡ kept t
 unfolding words kept noted-words

@@ -1,6 +1,7 @@
 -- What substitution makes of the nodes of a kept term: of a variable by its index, of a leaf that it leaves, and of a node with
 -- parts. A node is known by its word, which tells the parts.
 use Prim.Native.Nat.{ℕ, _+_, _*_, _-_, _≤_, _<_}
+use mathlib.Core.Bool.{true≢false}
 use mathlib.Core.List.{List, [], _∷_, _++_}
 use mathlib.Core.Path.{_≡_, refl, sym, ap, ap₂, _∙_}
 use native.Mathlib.Omega.{arith}
@@ -8,24 +9,24 @@ use borrow.Author.Tests.{lt-ltb, le-ltb, eq-eqb, ne-eqb}
 use lib.Dec.{ltb→lt}
 use lib.ListN.{length, take, drop, getD, length-append, length-take}
 use types.Run.{OneOf}
-use Rattle.calculus.specs.Term.{Term, var, star, castdown, size, raise, substitute}
-use Rattle.calculus.specs.Words.{Scoped}
+use Rattle.calculus.specs.Term.{Term, var, star, castdown, name, size, raise, substitute}
+use Rattle.calculus.specs.Words.{Scoped, Worded}
 use Rattle.calculus.specs.Meaning.{a-variable, binds, meaning}
 use Rattle.calculus.specs.Scan.{bound, means}
 use Rattle.calculus.proofs.Bridge.{raise-none}
 use Rattle.calculus.proofs.Coding.{size-positive}
-use Rattle.calculus.proofs.Meanings.{no-binds, word, word-meaning}
+use Rattle.calculus.proofs.Meanings.{no-binds}
 use Rattle.term.specs.declared.word.Meaning.{Meaning}
 use Rattle.term.specs.Kept.{keep, kept, Lies, word-at}
 use Rattle.term.specs.declared.word.Shape.{Shape}
 use Rattle.term.specs.Word.{meaning-of, shape-of}
-use Rattle.term.proofs.Nodes.{Two, View, a-variable as a-var, a-star, one-part, two-parts, view, raise-two, size-two}
+use Rattle.term.proofs.Nodes.{Two, View, a-variable as a-var, a-star, a-name, one-part, two-parts, raise-two, size-two}
 use Rattle.term.proofs.Nodes.{substitute-two, scoped-two, binds-two, word-two}
-use Rattle.term.proofs.Keeping.{kept-length, lies-taken, lies-word, lies-castdown, lies-star, lies-variable}
+use Rattle.term.proofs.Keeping.{kept-length, lies-taken, lies-word, lies-castdown, lies-star, lies-variable, lies-name}
 use Rattle.term.proofs.Visits.{tag, no-variable}
-use Rattle.term.proofs.Words.{variable}
+use Rattle.term.proofs.Words.{beyond, variable, variable-index}
 use Rattle.kept.specs.Rewriting.{Subject, Surveyed}
-use Rattle.kept.proofs.Clear.{Built, of-variable, of-star, of-one, of-two, built}
+use Rattle.kept.proofs.Clear.{Built, of-variable, of-star, of-name, of-one, of-two, built}
 use Rattle.kept.proofs.Clear.{subject-first, subject-second, subject-body}
 use Rattle.kept.proofs.Clear.{surveyed-first, surveyed-second, surveyed-body}
 use Rattle.kept.proofs.InPlace.{raise-size}
@@ -39,6 +40,7 @@ raised-in-scope : {t : Term} (n d : ℕ) → Built t → Scoped d t → raise n 
 unfolding raise Scoped
 raised-in-scope n d (of-variable i) h = rw (lt-ltb i d h) refl
 raised-in-scope n d of-star h = refl
+raised-in-scope n d (of-name i) h = refl
 raised-in-scope n d (of-one b) h = ap castdown (raised-in-scope n d b h)
 raised-in-scope n d (of-two {c} {w} {k} {a} {b} two p q) h =
     let (first, second) = scoped-two two d a b h in
@@ -70,18 +72,21 @@ module _ (d : ℕ) (u : Term) (i : ℕ) where
   pub substitute-outermost : i ≡ d → d ≡ 0 → substitute d u (var i) ≡ u
   substitute-outermost h none = substitute-here h ∙ ap (λ m. raise m 0 u) none ∙ raise-none u
 
--- A leaf below the variables that are free stays.
+-- A leaf stays if its word is below those of the free variables, or from 2,048 on, where it is a name.
 pub kept-leaf : {e : Term} → View e → (d : ℕ) (u : Term) {slice : List ℕ} {n : ℕ}
     → Lies e slice n
+    → Worded e
     → size e ≡ 1
-    → word-at slice n < 16 + d
+    → (16 + d ≤ word-at slice n → 2048 ≤ word-at slice n)
     → kept (substitute d u e) ≡ word-at slice n ∷ 1 ∷ []
-unfolding kept keep substitute size
-kept-leaf (a-var i) d u l one h =
-    kept-below d u i (omega (arith, lies-variable l)) ∙ ap (λ w. w ∷ 1 ∷ []) (sym (lies-variable l))
-kept-leaf a-star d u l one h = ap (λ w. w ∷ 1 ∷ []) (sym (lies-star l))
-kept-leaf (one-part e) d u l one h = absurd (omega (arith, one, size-positive e))
-kept-leaf (two-parts two a b) d u l one h = absurd (omega (arith, one, size-two two a b, size-positive a))
+unfolding kept keep substitute size Worded
+kept-leaf (a-var i) d u {slice} {n} l has one h =
+    let never : 16 + d ≤ word-at slice n → ⊥ = λ free. omega (arith, h free, has, lies-variable l) in
+    kept-below d u i (omega (arith, lies-variable l, never)) ∙ ap (λ w. w ∷ 1 ∷ []) (sym (lies-variable l))
+kept-leaf a-star d u l has one h = ap (λ w. w ∷ 1 ∷ []) (sym (lies-star l))
+kept-leaf (a-name i) d u l has one h = ap (λ w. w ∷ 1 ∷ []) (sym (lies-name l))
+kept-leaf (one-part e) d u l has one h = absurd (omega (arith, one, size-positive e))
+kept-leaf (two-parts two a b) d u l has one h = absurd (omega (arith, one, size-two two a b, size-positive a))
 
 -- The words of a subterm, as a part of the slice.
 pub part-taken : {e : Term} {slice : List ℕ} {n m : ℕ}
@@ -92,41 +97,34 @@ part-taken {e} {slice} {n} {m} l long =
     let count : 2 * (n + m) - 2 * n ≡ 2 * size e = omega (arith, long) in
     ap (λ k. take k (drop (2 * n) slice)) count ∙ lies-taken l
 
--- The word of a subject is a word: its index, if it is a variable, is below 2,032.
-subject-word : {e : Term} {slice : List ℕ} {n d : ℕ} → View e → Subject e slice n d → word-at slice n < 2048
-unfolding Scoped size
-subject-word (a-var i) s = omega (arith, lies-variable (s .lies), s .scoped, s .near)
-subject-word a-star s = omega (arith, lies-star (s .lies))
-subject-word (one-part e) s = omega (arith, lies-castdown (s .lies))
-subject-word (two-parts two a b) s = omega (arith, lies-word two (s .lies), word-two two .1)
+-- The index of a word that means a variable is below 2,032, since the words from 2,048 on mean none.
+pub index-small : (w i : ℕ) → a-variable i ≡ meaning w → i < 2032
+unfolding means
+index-small w i m = omega (arith, never, variable-index w i m)
+  where
+    never : 2048 ≤ w → ⊥
+    never h = true≢false (ap means (m ∙ beyond w h))
 
-variable-index : (w i : ℕ) → a-variable i ≡ meaning w → w ≡ 16 + i
-unfolding word means
-variable-index w i e = sym (word-meaning w (rw (← e) tt)) ∙ ap word (sym e)
-
-module _ {e : Term} {slice : List ℕ} {n d : ℕ} (s : Subject e slice n d) where
-  pub subject-index : (i : ℕ) → a-variable i ≡ meaning (word-at slice n) → i < 2032
-  subject-index i m = omega (arith, subject-word (view e) s, variable-index (word-at slice n) i m)
-
-  -- One that means no variable is below 16, since the words from there on are variables.
-  pub subject-other : (m : Meaning)
-      → meaning-of m ≡ meaning (word-at slice n)
-      → OneOf (0 ∷ 1 ∷ 2 ∷ 3 ∷ 4 ∷ 5 ∷ 6 ∷ 8 ∷ []) (tag m)
-      → word-at slice n < 16
-  unfolding bound
-  subject-other m is one = omega (arith, never)
-    where
-      w : ℕ
-      w = word-at slice n
-
-      never : 16 ≤ w → ⊥
-      never h = omega (arith, ltb→lt (w - 16) 0 (rw (is ∙ variable w h (subject-word (view e) s)) at (no-variable m one 0)))
+-- A word that means no variable is below 16 or from 2,048 on, since those between are variables.
+pub other-word : (w : ℕ) (m : Meaning)
+    → meaning-of m ≡ meaning w
+    → OneOf (0 ∷ 1 ∷ 2 ∷ 3 ∷ 4 ∷ 5 ∷ 6 ∷ 8 ∷ []) (tag m)
+    → 16 ≤ w
+    → 2048 ≤ w
+unfolding bound
+other-word w m is one low = omega (arith, never)
+  where
+    never : w < 2048 → ⊥
+    never h = omega (arith, ltb→lt (w - 16) 0 (rw (is ∙ variable w low h) at (no-variable m one 0)))
 
 -- The term at a node by what its word means.
 module _ {slice : List ℕ} {n : ℕ} where
   pub is-variable : {e : Term} → View e → Lies e slice n → (i : ℕ) → a-variable i ≡ meaning (word-at slice n) → e ≡ var i
   is-variable (a-var j) l i m = ap var (omega (arith, lies-variable l, variable-index (word-at slice n) i m))
   is-variable a-star l i m = absurd (omega (arith, lies-star l, variable-index (word-at slice n) i m))
+  is-variable (a-name j) l i m =
+      let w = word-at slice n in
+      absurd (omega (arith, lies-name l, variable-index w i m, index-small w i m))
   is-variable (one-part e) l i m = absurd (omega (arith, lies-castdown l, variable-index (word-at slice n) i m))
   is-variable (two-parts two a b) l i m =
       absurd (omega (arith, lies-word two l, word-two two .1, variable-index (word-at slice n) i m))
@@ -138,6 +136,9 @@ parts-at slice n = binds (meaning (word-at slice n))
 module _ {slice : List ℕ} {n : ℕ} where
   variable-parts : (i : ℕ) → Lies (var i) slice n → parts-at slice n ≡ []
   variable-parts i l = ap (λ w. binds (meaning w)) (lies-variable l) ∙ no-binds (16 + i) (omega arith)
+
+  name-parts : (i : ℕ) → Lies (name i) slice n → parts-at slice n ≡ []
+  name-parts i l = ap (λ w. binds (meaning w)) (lies-name l) ∙ no-binds (2048 + i) (omega arith)
 
   star-parts : Lies star slice n → parts-at slice n ≡ []
   unfolding binds meaning
@@ -156,6 +157,7 @@ module _ {slice : List ℕ} {n : ℕ} where
   unfolding size
   no-parts-leaf (a-var i) l none = refl
   no-parts-leaf a-star l none = refl
+  no-parts-leaf (a-name i) l none = refl
   no-parts-leaf (one-part e) l none = absurd (omega (arith, ap length (sym none ∙ one-parts l)))
   no-parts-leaf (two-parts two a b) l none = absurd (omega (arith, ap length (sym none ∙ both-parts two l)))
 
@@ -207,6 +209,7 @@ module _ {slice : List ℕ} {n d : ℕ} {first : List ℕ} where
       → FirstPart slice n d first e
   first-part (a-var i) s v some = absurd (some (variable-parts i (s .lies)))
   first-part a-star s v some = absurd (some (star-parts (s .lies)))
+  first-part (a-name i) s v some = absurd (some (name-parts i (s .lies)))
   first-part (one-part e) s v some =
       record {
         part = e;

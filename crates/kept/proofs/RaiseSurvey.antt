@@ -1,5 +1,5 @@
--- The survey of a slice is made from its end: what is found from a node on is the node itself where it is a variable, and what is
--- found from the next node on where it is none.
+-- The survey of a slice is made from its end: what is found from a node on is the node itself where it is a variable or a name, and
+-- what is found from the next node on where it is neither.
 use Prim.Native.Nat.{ℕ, suc, _+_, _-_, _*_, _≤_, _<_}
 use mathlib.Core.List.{List, [], _∷_}
 use mathlib.Core.Path.{_≡_, refl, sym, ap, ap₂, _∙_}
@@ -12,7 +12,7 @@ use Rattle.term.specs.Kept.{word-at, length-at}
 use Rattle.kept.specs.Rewriting.{clear-run, FirstVariables}
 use Rattle.kept.proofs.Clear.{run-more, run-ends}
 
--- The first variable at or behind the node `n`, `to` where there is none before it.
+-- The first variable or name at or behind the node `n`, `to` where there is none before it.
 abbrev pub found : List ℕ → ℕ → ℕ → ℕ
 found source to n = n + clear-run (drop (2 * n) source) (to - n)
 

@@ -9,14 +9,14 @@ use Rattle.calculus.specs.Term.{Term, size}
 use Rattle.calculus.specs.Words.{Scoped, longest, deepest}
 use Rattle.term.specs.Kept.{Lies, kept}
 
--- How many of the first `n` nodes stand before the first variable, the word of which is 16 or more.
+-- How many of the first `n` nodes stand before the first variable or name, the word of which is 16 or more.
 unfoldable pub clear-run : List ℕ → ℕ → ℕ
 clear-run [] n = 0
 clear-run (w ∷ []) n = 0
 clear-run (w ∷ l ∷ ws) zero = 0
 clear-run (w ∷ l ∷ ws) (suc n) = cond (ltb w 16) (suc (clear-run ws n)) 0
 
--- For each node from `from` up to `to`, `first` has the first variable at or behind it, `to` where there is none.
+-- For each node from `from` up to `to`, `first` has the first variable or name at or behind it, `to` where there is none.
 pub record FirstVariables (source : List ℕ) (from to : ℕ) (first : List ℕ) : Type 0 where
   pub wide : length first ≡ longest
   pub each : (n : ℕ) → from ≤ n → n < to → getD first n 0 ≡ n + clear-run (drop (2 * n) source) (to - n)

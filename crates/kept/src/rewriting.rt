@@ -15,12 +15,12 @@ ghost use Prim.Native.Nat.{ℕ, _+_, _*_, _≤_, _<_};
 ghost use lib.ListN.{length};
 ghost use lib.Seq.{sets};
 ghost use Rattle.calculus.specs.Term.{Term, raise, size, substitute, var};
-ghost use Rattle.calculus.specs.Words.{longest};
+ghost use Rattle.calculus.specs.Words.{Worded, longest};
 ghost use Rattle.term.specs.Kept.{Lies, kept};
 ghost use Rattle.kept.specs.Rewriting.{Argument, FirstVariables, Fits, Subject, Surveyed};
 ghost use Rattle.kept.specs.Writing.{Puts};
 
-// For each node from `from` up to `to` the first variable at or behind it, `to` where there is none.
+// For each node from `from` up to `to` the first variable or name at or behind it, `to` where there is none.
 fn find_variables(source: &[u16], from: usize, to: usize, first: &mut [u16; 1024])
     requires { ⌜ (from ≤ to) × (to ≤ longest) × (2 * to ≤ length (now source)) × (length (now first) ≡ longest) ⌝ }
     ensures { λ _. ⌜ FirstVariables (now (source .entry)) from to (now (first .exit)) ⌝ }
@@ -36,21 +36,23 @@ fn find_variables(source: &[u16], from: usize, to: usize, first: &mut [u16; 1024
     }
 }
 
-// Raises the leaf at a node under `depth` binders: a variable that is free there.
+// Raises the leaf at a node under `depth` binders: a variable that is free there. From 2,048 on words are names, which nothing raises.
 fn raise_leaf(slice: &mut [u16], node: usize, depth: u16, by: u16)
     requires { ⌜ ((e : Term) × Subject e (now slice) node depth × (size e ≡ 1)) × (by ≤ longest) ⌝ }
-    ensures { λ _. ⌜ ((e : Term) → Lies e (now (slice .entry)) node → size e ≡ 1 → now (slice .exit) ≡ sets (now (slice .entry)) (2 * node) (kept (raise by depth e))) ⌝ }
+    ensures { λ _. ⌜ ((e : Term) → Lies e (now (slice .entry)) node → Worded e → size e ≡ 1 → now (slice .exit) ≡ sets (now (slice .entry)) (2 * node) (kept (raise by depth e))) ⌝ }
 {
     let word = slice[2 * node];
     if 16 + depth <= word {
-        slice[2 * node] = word + by;
+        if word < 2048 {
+            slice[2 * node] = word + by;
+        }
     }
 }
 
 // Raises the free variables of the subterm at a node that has parts, in place: no length changes.
 fn raise_parts(slice: &mut [u16], node: usize, depth: u16, by: u16, first: &[u16; 1024])
     requires { ⌜ ((e : Term) × Subject e (now slice) node depth × Surveyed e (now slice) node (now first) × (1 < size e)) × (by ≤ longest) ⌝ }
-    ensures { λ _. ⌜ ((e : Term) → Lies e (now (slice .entry)) node → now (slice .exit) ≡ sets (now (slice .entry)) (2 * node) (kept (raise by depth e))) ⌝ }
+    ensures { λ _. ⌜ ((e : Term) → Lies e (now (slice .entry)) node → Worded e → now (slice .exit) ≡ sets (now (slice .entry)) (2 * node) (kept (raise by depth e))) ⌝ }
 {
     let shape = shape_of(slice[2 * node]);
     let front = node + 1;
@@ -76,7 +78,7 @@ fn raise_parts(slice: &mut [u16], node: usize, depth: u16, by: u16, first: &[u16
 // The same for a term of `count` nodes that the slice is, where it has variables at all.
 fn raise_long(slice: &mut [u16], count: usize, by: u16)
     requires { ⌜ ((e : Term) × (now slice ≡ kept e) × Fits e × (count ≡ size e) × (1 < size e)) × (by ≤ longest) ⌝ }
-    ensures { λ _. ⌜ ((e : Term) → now (slice .entry) ≡ kept e → now (slice .exit) ≡ kept (raise by 0 e)) ⌝ }
+    ensures { λ _. ⌜ ((e : Term) → now (slice .entry) ≡ kept e → Worded e → now (slice .exit) ≡ kept (raise by 0 e)) ⌝ }
 {
     let mut first = [0u16; 1024];
     find_variables(slice, 0, count, &mut first);
@@ -88,7 +90,7 @@ fn raise_long(slice: &mut [u16], count: usize, by: u16)
 // Raises the free variables of the term that the slice is, in place.
 pub fn raise(slice: &mut [u16], by: u16)
     requires { ⌜ ((e : Term) × (now slice ≡ kept e) × Fits e) × (by ≤ longest) ⌝ }
-    ensures { λ _. ⌜ ((e : Term) → now (slice .entry) ≡ kept e → now (slice .exit) ≡ kept (raise by 0 e)) ⌝ }
+    ensures { λ _. ⌜ ((e : Term) → now (slice .entry) ≡ kept e → Worded e → now (slice .exit) ≡ kept (raise by 0 e)) ⌝ }
 {
     let count = length_at(slice, 0);
     if count == 1 {
@@ -139,7 +141,7 @@ fn put_variable(
     at: usize,
 ) -> usize
     requires { ⌜ (2 * at ≤ length (now out)) × (index < 2032) × (depth ≤ longest) × ((u : Term) × Argument u (now argument) closed) ⌝ }
-    ensures { λ r. ⌜ ((u : Term) → now (argument .entry) ≡ kept u → Puts (kept (substitute depth u (var index))) (now (out .entry)) at r (now (out .exit))) ⌝ }
+    ensures { λ r. ⌜ ((u : Term) → now (argument .entry) ≡ kept u → Worded u → Puts (kept (substitute depth u (var index))) (now (out .entry)) at r (now (out .exit))) ⌝ }
 {
     if index < depth {
         return put(16 + index, out, at);
@@ -160,8 +162,8 @@ fn put_variable(
     end
 }
 
-// Writes the subterm at a node where it stays as it is, as a star, a bound variable, or a part without variables; answers `at` where
-// it has to be rewritten.
+// Writes the subterm at a node where it stays as it is, as a star, a bound variable, or a part without variables and names; answers `at`
+// where it has to be rewritten.
 fn put_same(
     source: &[u16],
     node: usize,
@@ -172,7 +174,7 @@ fn put_same(
 ) -> usize
     requires { ⌜ (2 * at ≤ length (now out)) × ((e : Term) × Subject e (now source) node depth × Surveyed e (now source) node (now first)) ⌝ }
     ensures { λ r. ⌜ (r ≡ at → now (out .exit) ≡ now (out .entry))
-        × (r ≢ at → (e u : Term) → Lies e (now (source .entry)) node → Puts (kept (substitute depth u e)) (now (out .entry)) at r (now (out .exit))) ⌝ }
+        × (r ≢ at → (e u : Term) → Lies e (now (source .entry)) node → Worded e → Puts (kept (substitute depth u e)) (now (out .entry)) at r (now (out .exit))) ⌝ }
 {
     let length = length_at(source, node);
     if length == 1 {
@@ -201,7 +203,7 @@ fn rewrite(
     at: usize,
 ) -> usize
     requires { ⌜ (2 * at ≤ length (now out)) × (length (now out) ≤ 2 * (at + longest)) × ((e : Term) × Subject e (now source) node depth × Surveyed e (now source) node (now first)) × ((u : Term) × Argument u (now argument) closed) ⌝ }
-    ensures { λ r. ⌜ ((e u : Term) → Lies e (now (source .entry)) node → now (argument .entry) ≡ kept u → Puts (kept (substitute depth u e)) (now (out .entry)) at r (now (out .exit))) ⌝ }
+    ensures { λ r. ⌜ ((e u : Term) → Lies e (now (source .entry)) node → Worded e → now (argument .entry) ≡ kept u → Worded u → Puts (kept (substitute depth u e)) (now (out .entry)) at r (now (out .exit))) ⌝ }
 {
     let word = source[2 * node];
     if let Meaning::Variable(index) = classify(word) {
@@ -251,7 +253,7 @@ fn substitute_long(
     at: usize,
 ) -> usize
     requires { ⌜ (2 * at ≤ length (now out)) × (length (now out) ≤ 2 * (at + longest)) × ((e : Term) × Subject e (now source) body 0 × (count ≡ size e) × (1 < size e) × (body + size e ≤ longest)) × ((u : Term) × Argument u (now argument) closed) ⌝ }
-    ensures { λ r. ⌜ ((e u : Term) → Lies e (now (source .entry)) body → now (argument .entry) ≡ kept u → Puts (kept (substitute 0 u e)) (now (out .entry)) at r (now (out .exit))) ⌝ }
+    ensures { λ r. ⌜ ((e u : Term) → Lies e (now (source .entry)) body → Worded e → now (argument .entry) ≡ kept u → Worded u → Puts (kept (substitute 0 u e)) (now (out .entry)) at r (now (out .exit))) ⌝ }
 {
     let mut first = [0u16; 1024];
     find_variables(source, body, body + count, &mut first);
@@ -268,7 +270,7 @@ pub fn substitute(
     at: usize,
 ) -> usize
     requires { ⌜ (2 * at ≤ length (now out)) × (length (now out) ≤ 2 * (at + longest)) × ((e : Term) × Subject e (now source) body 0 × (body + size e ≤ longest)) × ((u : Term) × Argument u (now argument) closed) ⌝ }
-    ensures { λ r. ⌜ ((e u : Term) → Lies e (now (source .entry)) body → now (argument .entry) ≡ kept u → Puts (kept (substitute 0 u e)) (now (out .entry)) at r (now (out .exit))) ⌝ }
+    ensures { λ r. ⌜ ((e u : Term) → Lies e (now (source .entry)) body → Worded e → now (argument .entry) ≡ kept u → Worded u → Puts (kept (substitute 0 u e)) (now (out .entry)) at r (now (out .exit))) ⌝ }
 {
     let length = length_at(source, body);
     if length == 1 {

@@ -3,10 +3,10 @@
 use Prim.Native.Nat.{ℕ, suc}
 use mathlib.Core.Path.{_≡_, refl, ap}
 use Rattle.calculus.specs.Term.{Term, app, castdown}
-use Rattle.calculus.specs.Words.{Scoped}
+use Rattle.calculus.specs.Words.{Scoped, Worded}
 use Rattle.calculus.specs.Kinds.{Kind}
 use Rattle.calculus.specs.Step.{Next, next, under, applied, cancelled, step}
-use Rattle.reduction.specs.Stepping.{Around, here, in-function, in-body}
+use Rattle.reduction.specs.Stepping.{Around, here, in-function, in-body, next-of}
 
 pub data Frame : Type 0 where
   applied-to : Term → Frame
@@ -26,7 +26,7 @@ unfoldable pub steps-itself : Frame → Term → Next
 steps-itself (applied-to u) t = applied t u
 steps-itself cast-down t = cancelled t
 
-pub step-fill : (f : Frame) (t : Term) → step (fill f t) ≡ under (fill f) (steps-itself f t) (step t)
+pub step-fill : (f : Frame) (t : Term) → next-of (fill f t) ≡ under (fill f) (steps-itself f t) (next-of t)
 unfolding fill steps-itself step
 step-fill (applied-to u) t = refl
 step-fill cast-down t = refl
@@ -36,7 +36,7 @@ unfolding fill
 around-fill (applied-to u) r = in-function r
 around-fill cast-down r = in-body r
 
-pub step-around : {t s x y : Term} {n : ℕ} {k : Kind} → Around t n s x y → step s ≡ next k x → step t ≡ next k y
+pub step-around : {t s x y : Term} {n : ℕ} {k : Kind} → Around t n s x y → next-of s ≡ next k x → next-of t ≡ next k y
 unfolding step under
 step-around here h = h
 step-around (in-function {f = f} {u = u} r) h = ap (under (λ g. app g u) (applied f u)) (step-around r h)
@@ -47,3 +47,9 @@ unfolding Scoped
 scoped-inside here m h = h
 scoped-inside (in-function r) m h = scoped-inside r m (h .0)
 scoped-inside (in-body r) m h = scoped-inside r m h
+
+pub worded-inside : {t s x y : Term} {n : ℕ} → Around t n s x y → Worded t → Worded s
+unfolding Worded
+worded-inside here h = h
+worded-inside (in-function r) h = worded-inside r (h .0)
+worded-inside (in-body r) h = worded-inside r h

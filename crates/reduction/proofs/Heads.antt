@@ -1,7 +1,7 @@
 -- The redex by the words alone. The down casts and applications that kept words begin with are counted; the kind of the next
 -- node's word and of the one before it decide. By induction on the term: one frame more moves the node by one, and where the part
 -- is no frame itself the two nodes at its front are those that decide. It goes over the words of the nodes, without the lengths.
-use Prim.Native.Nat.{ℕ, zero, suc, pred, _+_, _*_, _<_}
+use Prim.Native.Nat.{ℕ, zero, suc, pred, _+_, _*_, _≤_, _<_}
 use mathlib.Core.Bool.{Bool, true, false, cond}
 use mathlib.Core.List.{List, [], _∷_, map}
 use mathlib.Core.Path.{_≡_, refl, sym, ap, _∙_}
@@ -9,7 +9,7 @@ use native.Mathlib.Omega.{arith}
 use lib.Dec.{eqb}
 use lib.ListN.{length, getD, drop, List·getD-map}
 use lib.Seq.{drop-cons}
-use Rattle.calculus.specs.Term.{Term, var, star, app, lam, pi, castup, castdown, mu, size}
+use Rattle.calculus.specs.Term.{Term, var, star, app, lam, pi, castup, castdown, mu, name, size}
 use Rattle.calculus.specs.Meaning.{meaning}
 use Rattle.calculus.proofs.Meanings.{from-seven}
 use Rattle.term.specs.Kept.{keep, word-at}
@@ -81,28 +81,28 @@ frame-inside f g l m ws h =
     (kind (getD (spelled ws) (heads ws) 0))
     (kind (getD (frame-word g ∷ spelled ws) (heads ws) 0)))
 
--- A variable, by itself and in a frame.
-heads-variable : (i : ℕ) (k : List ℕ) → heads ((16 + i) ∷ 1 ∷ k) ≡ 0
-unfolding heads
-heads-variable i k = rw (no-frame (16 + i) (omega arith)) refl
+-- A word that means no node, as that of a variable or of a name, by itself and in a frame.
+module _ (w : ℕ) (high : 7 ≤ w) where
+  heads-leaf : (k : List ℕ) → heads (w ∷ 1 ∷ k) ≡ 0
+  unfolding heads
+  heads-leaf k = rw (no-frame w high) refl
 
-variable-decided : (i : ℕ) (k : List ℕ) → Stuck ≡ decided ((16 + i) ∷ 1 ∷ k)
-unfolding kind spelled
-variable-decided i k =
-    rw (heads-variable i k) (from-seven (λ m. Stuck ≡ decide 0 (index m) (index m)) (16 + i) (omega arith) refl refl)
+  leaf-decided : (k : List ℕ) → Stuck ≡ decided (w ∷ 1 ∷ k)
+  unfolding kind spelled
+  leaf-decided k = rw (heads-leaf k) (from-seven (λ m. Stuck ≡ decide 0 (index m) (index m)) w high refl refl)
 
-variable-inside : (f : Frame) (l i : ℕ) (k : List ℕ) → Stuck ≡ decided (frame-word f ∷ l ∷ (16 + i) ∷ 1 ∷ k)
-unfolding kind spelled
-variable-inside f l i k =
-    rw
-    (heads-frame f l ((16 + i) ∷ 1 ∷ k), heads-variable i k)
-    (from-seven (λ m. Stuck ≡ decide 1 (index m) (kind (frame-word f))) (16 + i) (omega arith) refl refl)
+  leaf-inside : (f : Frame) (l : ℕ) (k : List ℕ) → Stuck ≡ decided (frame-word f ∷ l ∷ w ∷ 1 ∷ k)
+  unfolding kind spelled
+  leaf-inside f l k =
+      rw
+      (heads-frame f l (w ∷ 1 ∷ k), heads-leaf k)
+      (from-seven (λ m. Stuck ≡ decide 1 (index m) (kind (frame-word f))) w high refl refl)
 
 fill-decided : (f : Frame) (l : ℕ) (t : Term) (k : List ℕ)
     → locate t ≡ decided (keep t k)
     → deeper (locate t) (at-node f t) ≡ decided (frame-word f ∷ l ∷ keep t k)
 unfolding keep spelled heads locate deeper at-node at-application at-castdown frame-word kind meaning
-fill-decided (applied-to u) l (var i) k h = variable-inside (applied-to u) l i k
+fill-decided (applied-to u) l (var i) k h = leaf-inside (16 + i) (omega arith) (applied-to u) l k
 fill-decided (applied-to u) l star k h = refl
 fill-decided (applied-to u) l (app g s) k h =
     frame-inside (applied-to u) (applied-to s) l (size (app g s)) (keep g (keep s k)) h
@@ -111,7 +111,8 @@ fill-decided (applied-to u) l (pi a b) k h = refl
 fill-decided (applied-to u) l (castup a e) k h = refl
 fill-decided (applied-to u) l (castdown e) k h = frame-inside (applied-to u) cast-down l (size (castdown e)) (keep e k) h
 fill-decided (applied-to u) l (mu a e) k h = refl
-fill-decided cast-down l (var i) k h = variable-inside cast-down l i k
+fill-decided (applied-to u) l (name i) k h = leaf-inside (2048 + i) (omega arith) (applied-to u) l k
+fill-decided cast-down l (var i) k h = leaf-inside (16 + i) (omega arith) cast-down l k
 fill-decided cast-down l star k h = refl
 fill-decided cast-down l (app g s) k h = frame-inside cast-down (applied-to s) l (size (app g s)) (keep g (keep s k)) h
 fill-decided cast-down l (lam a e) k h = refl
@@ -119,10 +120,11 @@ fill-decided cast-down l (pi a b) k h = refl
 fill-decided cast-down l (castup a e) k h = refl
 fill-decided cast-down l (castdown e) k h = frame-inside cast-down cast-down l (size (castdown e)) (keep e k) h
 fill-decided cast-down l (mu a e) k h = refl
+fill-decided cast-down l (name i) k h = leaf-inside (2048 + i) (omega arith) cast-down l k
 
 pub located : (t : Term) (k : List ℕ) → locate t ≡ decided (keep t k)
 unfolding keep spelled heads locate at-node frame-word kind meaning
-located (var i) k = variable-decided i k
+located (var i) k = leaf-decided (16 + i) (omega arith) k
 located star k = refl
 located (app f u) k = fill-decided (applied-to u) (size (app f u)) f (keep u k) (located f (keep u k))
 located (lam a e) k = refl
@@ -130,11 +132,12 @@ located (pi a b) k = refl
 located (castup a e) k = refl
 located (castdown e) k = fill-decided cast-down (size (castdown e)) e k (located e k)
 located (mu a e) k = refl
+located (name i) k = leaf-decided (2048 + i) (omega arith) k
 
 -- There is a node behind the frames.
 pub heads-inside : (t : Term) (k : List ℕ) → 2 * heads (keep t k) + 1 < length (keep t k)
 unfolding keep heads
-heads-inside (var i) k = omega (arith, heads-variable i k)
+heads-inside (var i) k = omega (arith, heads-leaf (16 + i) (omega arith) k)
 heads-inside star k = omega arith
 heads-inside (app f u) k = omega (arith, heads-inside f (keep u k))
 heads-inside (lam a e) k = omega arith
@@ -142,6 +145,7 @@ heads-inside (pi a b) k = omega arith
 heads-inside (castup a e) k = omega arith
 heads-inside (castdown e) k = omega (arith, heads-inside e k)
 heads-inside (mu a e) k = omega arith
+heads-inside (name i) k = omega (arith, heads-leaf (2048 + i) (omega arith) k)
 
 -- The word of a node among the words of the nodes.
 pub word-spelled : (ws : List ℕ) (n : ℕ) → 2 * n + 1 < length ws → getD (spelled ws) n 0 ≡ word-at ws n

@@ -6,8 +6,8 @@ use mathlib.Core.Path.{_≡_, refl, sym, ap, _∙_, subst}
 use native.Mathlib.Omega.{arith}
 use lib.ListN.{length, take, drop}
 use Rattle.calculus.specs.Term.{Term, app, lam, castup, castdown, mu, size}
-use Rattle.calculus.specs.Words.{Scoped, longest}
-use Rattle.calculus.specs.Step.{next, step}
+use Rattle.calculus.specs.Words.{Scoped, Worded, longest}
+use Rattle.calculus.specs.Step.{next}
 use Rattle.calculus.proofs.Coding.{size-positive}
 use Rattle.term.specs.Kept.{Lies, kept}
 use Rattle.term.proofs.Nodes.{two-app, two-castup, two-lam, two-mu, size-two}
@@ -17,8 +17,8 @@ use Rattle.reduction.specs.declared.stepping.Redex.the-variants as redex
 use Rattle.reduction.specs.declared.stepping.Stepped.{Stepped}
 use Rattle.reduction.specs.declared.stepping.Stepped.the-variants as stepped
 use Rattle.kept.specs.Writing.{Puts}
-use Rattle.reduction.specs.Stepping.{Around, Arrives, Located, Steps, kind-of, locate}
-use Rattle.reduction.proofs.Frames.{step-around, scoped-inside}
+use Rattle.reduction.specs.Stepping.{Around, Arrives, Located, Steps, kind-of, locate, next-of}
+use Rattle.reduction.proofs.Frames.{step-around, scoped-inside, worded-inside}
 use Rattle.reduction.proofs.Redexes.{Inside, splits-at}
 use Rattle.reduction.proofs.Surrounding.{around-lies, around-length, around-within, same-difference}
 
@@ -26,31 +26,32 @@ use Rattle.reduction.proofs.Surrounding.{around-lies, around-length, ar
 pub record Placed (ws : List ℕ) (at : ℕ) (s : Term) : Type 0 where
   pub term : Term
   pub coded : ws ≡ kept term
+  pub has-words : Worded term
   pub short : size term ≤ longest
   pub put : Term → Term
   pub around : (x : Term) → Around term at s x (put x)
 
-placed : {ws : List ℕ} {at : ℕ} {s : Term} (t : Term) → ws ≡ kept t → size t ≤ longest → Inside t at s → Placed ws at s
-placed t coded short i = record { term = t; coded = coded; short = short; put = i .put; around = i .around }
+placed : {ws : List ℕ} {at : ℕ} {s : Term} (t : Term) → ws ≡ kept t → Worded t → size t ≤ longest → Inside t at s → Placed ws at s
+placed t coded has short i = record { term = t; coded = coded; has-words = has; short = short; put = i .put; around = i .around }
 
 pub beta-placed : {ws : List ℕ} {at : ℕ}
     → Located ws (redex.Beta at)
     → (a : Term) × (e : Term) × (u : Term) × Placed ws at (app (lam a e) u)
-beta-placed (t, coded, short, there) =
+beta-placed (t, coded, has, short, there) =
     let (a, e, u, i) = splits-at t there in
-    (a, e, u, placed t coded short i)
+    (a, e, u, placed t coded has short i)
 
 pub unfold-placed : {ws : List ℕ} {at : ℕ} → Located ws (redex.Unfold at) → (a : Term) × (e : Term) × Placed ws at (mu a e)
-unfold-placed (t, coded, short, there) =
+unfold-placed (t, coded, has, short, there) =
     let (a, e, i) = splits-at t there in
-    (a, e, placed t coded short i)
+    (a, e, placed t coded has short i)
 
 pub cancel-placed : {ws : List ℕ} {at : ℕ}
     → Located ws (redex.Cancel at)
     → (a : Term) × (e : Term) × Placed ws at (castdown (castup a e))
-cancel-placed (t, coded, short, there) =
+cancel-placed (t, coded, has, short, there) =
     let (a, e, i) = splits-at t there in
-    (a, e, placed t coded short i)
+    (a, e, placed t coded has short i)
 
 module _ {ws : List ℕ} {at : ℕ} {s : Term} (p : Placed ws at s) where
   pub placed-lies : Lies s ws at
@@ -59,23 +60,27 @@ module _ {ws : List ℕ} {at : ℕ} {s : Term} (p : Placed ws at s) where
   pub placed-short : length ws ≤ 2 * longest
   placed-short = omega (arith, around-length (p .around s) (p .coded), p .short)
 
-  same : (t : Term) → ws ≡ kept t → t ≡ p .term
-  same t coded = kept-injective t (p .term) (sym coded ∙ p .coded)
+  same : (t : Term) → ws ≡ kept t → Worded t → t ≡ p .term
+  same t coded has = kept-injective t (p .term) has (p .has-words) (sym coded ∙ p .coded)
 
-  pub placed-scoped : (t : Term) → ws ≡ kept t → (n : ℕ) → Scoped n t → Scoped n s
-  placed-scoped t coded n h = scoped-inside (p .around s) n (subst (Scoped n) (same t coded) h)
+  pub placed-scoped : (t : Term) → ws ≡ kept t → Worded t → (n : ℕ) → Scoped n t → Scoped n s
+  placed-scoped t coded has n h = scoped-inside (p .around s) n (subst (Scoped n) (same t coded has) h)
 
-  module _ (K : Kind) (x : Term) (h : step s ≡ next (kind-of K) x) where
+  pub placed-worded : Worded s
+  placed-worded = worded-inside (p .around s) (p .has-words)
+
+  module _ (K : Kind) (x : Term) (h : next-of s ≡ next (kind-of K) x) where
     pub reaches : {out after : List ℕ} {r : Stepped}
         → Arrives K (p .put x) out r after
         → (t : Term)
         → ws ≡ kept t
-        → Steps (step t) out r after
+        → Worded t
+        → Steps (next-of t) out r after
     unfolding Steps
-    reaches {out} {after} {r} a t coded =
-        subst (λ n. Steps n out r after) (sym (ap step (same t coded) ∙ step-around (p .around x) h)) (K, refl, a)
+    reaches {out} {after} {r} a t coded has =
+        subst (λ n. Steps n out r after) (sym (ap next-of (same t coded has) ∙ step-around (p .around x) h)) (K, refl, a)
 
-    pub no-room : (out : List ℕ) → length out < 2 * at → (t : Term) → ws ≡ kept t → Steps (step t) out stepped.Full out
+    pub no-room : (out : List ℕ) → length out < 2 * at → (t : Term) → ws ≡ kept t → Worded t → Steps (next-of t) out stepped.Full out
     no-room out lacks =
         reaches
         record {
@@ -84,11 +89,11 @@ module _ {ws : List ℕ} {at : ℕ} {s : Term} (p : Placed ws at s) where
         }
 
 -- Where there is no redex, the term is a value or stuck.
-pub value-stays : (out : List ℕ) (t : Term) → locate t ≡ redex.Value → Steps (step t) out stepped.Value out
+pub value-stays : (out : List ℕ) (t : Term) → locate t ≡ redex.Value → Steps (next-of t) out stepped.Value out
 unfolding Steps
 value-stays out t h = rw (splits-at t h) (refl, refl)
 
-pub stuck-stays : (out : List ℕ) (t : Term) → locate t ≡ redex.Stuck → Steps (step t) out stepped.Stuck out
+pub stuck-stays : (out : List ℕ) (t : Term) → locate t ≡ redex.Stuck → Steps (next-of t) out stepped.Stuck out
 unfolding Steps
 stuck-stays out t h = rw (splits-at t h) (refl, refl)
 

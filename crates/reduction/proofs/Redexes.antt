@@ -2,9 +2,10 @@
 -- redex of a part is the redex of the whole, one frame further in; where the part has none, the form of the part decides.
 use Prim.Native.Nat.{ℕ, suc}
 use mathlib.Core.Path.{_≡_, refl, ap, subst, _∙_}
-use Rattle.calculus.specs.Term.{Term, var, star, app, lam, pi, castup, castdown, mu}
-use Rattle.calculus.specs.Step.{value, stuck, under, applied, cancelled, step}
-use Rattle.reduction.specs.Stepping.{Around, here, deeper, at-application, at-castdown, locate}
+use Rattle.calculus.specs.Term.{Term, var, star, app, lam, pi, castup, castdown, mu, name}
+use Rattle.calculus.specs.Book.{view, bodies}
+use Rattle.calculus.specs.Step.{value, stuck, under, applied, cancelled, unfolded, step}
+use Rattle.reduction.specs.Stepping.{Around, here, deeper, at-application, at-castdown, locate, next-of}
 use Rattle.reduction.specs.declared.stepping.Redex.{Redex}
 use Rattle.reduction.specs.declared.stepping.Redex.the-variants.{Value, Stuck, Beta, Cancel, Unfold}
 use Rattle.reduction.proofs.Frames.{Frame, applied-to, cast-down, fill, steps-itself, step-fill, around-fill}
@@ -15,8 +16,8 @@ pub record Inside (t : Term) (n : ℕ) (s : Term) : Type 0 where
   pub around : (x : Term) → Around t n s x (put x)
 
 abbrev pub Splits : Term → Redex → Type 0
-Splits t Value = step t ≡ value
-Splits t Stuck = step t ≡ stuck
+Splits t Value = next-of t ≡ value
+Splits t Stuck = next-of t ≡ stuck
 Splits t (Beta n) = (a : Term) × (e : Term) × (u : Term) × Inside t n (app (lam a e) u)
 Splits t (Cancel n) = (a : Term) × (e : Term) × Inside t n (castdown (castup a e))
 Splits t (Unfold n) = (a : Term) × (e : Term) × Inside t n (mu a e)
@@ -32,7 +33,7 @@ unfoldable pub at-node : Frame → Term → Redex
 at-node (applied-to u) t = at-application t
 at-node cast-down t = at-castdown t
 
-node-splits : (f : Frame) (t : Term) → step (fill f t) ≡ steps-itself f t → Splits (fill f t) (at-node f t)
+node-splits : (f : Frame) (t : Term) → next-of (fill f t) ≡ steps-itself f t → Splits (fill f t) (at-node f t)
 unfolding fill at-node steps-itself at-application at-castdown applied cancelled
 node-splits (applied-to u) (var i) h = h
 node-splits (applied-to u) star h = h
@@ -42,6 +43,7 @@ node-splits (applied-to u) (pi a b) h = h
 node-splits (applied-to u) (castup a e) h = h
 node-splits (applied-to u) (castdown e) h = h
 node-splits (applied-to u) (mu a e) h = h
+node-splits (applied-to u) (name i) h = h
 node-splits cast-down (var i) h = h
 node-splits cast-down star h = h
 node-splits cast-down (app g s) h = h
@@ -50,6 +52,7 @@ node-splits cast-down (pi a b) h = h
 node-splits cast-down (castup a e) h = (a, e, outermost (castdown (castup a e)))
 node-splits cast-down (castdown e) h = h
 node-splits cast-down (mu a e) h = h
+node-splits cast-down (name i) h = h
 
 fill-splits : (f : Frame) (t : Term) (r : Redex) → Splits t r → Splits (fill f t) (deeper r (at-node f t))
 unfolding deeper under
@@ -60,7 +63,7 @@ fill-splits f t (Cancel n) h = (h .0, h .1, one-further f (h .2))
 fill-splits f t (Unfold n) h = (h .0, h .1, one-further f (h .2))
 
 splits : (t : Term) → Splits t (locate t)
-unfolding locate step fill at-node
+unfolding locate step unfolded view bodies fill at-node
 splits (var i) = refl
 splits star = refl
 splits (app f u) = fill-splits (applied-to u) f (locate f) (splits f)
@@ -69,6 +72,7 @@ splits (pi a b) = refl
 splits (castup a e) = refl
 splits (castdown e) = fill-splits cast-down e (locate e) (splits e)
 splits (mu a e) = (a, e, outermost (mu a e))
+splits (name i) = refl
 
 pub splits-at : (t : Term) {r : Redex} → locate t ≡ r → Splits t r
 splits-at t there = subst (Splits t) there (splits t)

@@ -6,8 +6,9 @@ use mathlib.Core.Path.{_≡_}
 use lib.Dec.{leb}
 use lib.ListN.{length}
 use lib.Seq.{sets}
-use Rattle.calculus.specs.Term.{Term, var, star, app, lam, pi, castup, castdown, mu, size}
-use Rattle.calculus.specs.Words.{Scoped, longest, deepest}
+use Rattle.calculus.specs.Term.{Term, var, star, app, lam, pi, castup, castdown, mu, name, size}
+use Rattle.calculus.specs.Words.{Scoped, Worded, longest, deepest}
+use Rattle.calculus.specs.Book.{bodies}
 use Rattle.calculus.specs.Kinds as kinds
 use Rattle.calculus.specs.Step as calculus
 use Rattle.term.specs.Kept.{kept}
@@ -35,6 +36,7 @@ at-application (pi a b) = redex.Stuck
 at-application (castup a e) = redex.Stuck
 at-application (castdown e) = redex.Stuck
 at-application (mu a e) = redex.Stuck
+at-application (name i) = redex.Stuck
 
 unfoldable pub at-castdown : Term → Redex
 at-castdown (var i) = redex.Stuck
@@ -45,8 +47,9 @@ at-castdown (pi a b) = redex.Stuck
 at-castdown (castup a e) = redex.Cancel 0
 at-castdown (castdown e) = redex.Stuck
 at-castdown (mu a e) = redex.Stuck
+at-castdown (name i) = redex.Stuck
 
--- Where a term steps and by which rule: its node.
+-- Where a term steps and by which rule: its node. No name stands for anything here.
 unfoldable pub locate : Term → Redex
 locate (var i) = redex.Stuck
 locate star = redex.Value
@@ -56,6 +59,7 @@ locate (pi a b) = redex.Value
 locate (castup a e) = redex.Value
 locate (castdown e) = deeper (locate e) (at-castdown e)
 locate (mu a e) = redex.Unfold 0
+locate (name i) = redex.Stuck
 
 -- The slice is a kept term.
 abbrev pub Held : List ℕ → Type 0
@@ -71,7 +75,7 @@ pub record HeldWithin (slice : List ℕ) (closed : Bool) : Type 0 where
 
 -- It is one of at most 1,024 nodes that steps at that redex.
 abbrev pub Located : List ℕ → Redex → Type 0
-Located slice r = (t : Term) × (slice ≡ kept t) × (size t ≤ longest) × (locate t ≡ r)
+Located slice r = (t : Term) × (slice ≡ kept t) × Worded t × (size t ≤ longest) × (locate t ≡ r)
 
 -- The down casts and applications that kept words begin with.
 unfoldable pub heads : List ℕ → ℕ
@@ -116,6 +120,10 @@ Steps calculus.value out r after = (r ≡ stepped.Value) × (after ≡ out)
 Steps calculus.stuck out r after = (r ≡ stepped.Stuck) × (after ≡ out)
 Steps (calculus.next k x) out r after = (K : Kind) × (kind-of K ≡ k) × Arrives K x out r after
 
+-- The step of a term over the empty book.
+abbrev pub next-of : Term → calculus.Next
+next-of = calculus.step (bodies [])
+
 -- The same of a state: whatever term it keeps, by its step.
 abbrev pub Tells : (state out : List ℕ) → Stepped → (after : List ℕ) → Type 0
-Tells state out r after = (t : Term) → state ≡ kept t → Steps (calculus.step t) out r after
+Tells state out r after = (t : Term) → state ≡ kept t → Worded t → Steps (next-of t) out r after

@@ -1,7 +1,7 @@
 -- What the calls of a check and of a run tell. Their slices are as long as the calls ask for, so each answers what the calculus says
 -- of the words alone: the type stands at the start of the output slice, and the last state at the start of the state slice, where
 -- a walk finds its length.
-use Prim.Native.Nat.{ℕ, _≤_, min}
+use Prim.Native.Nat.{ℕ, _≤_}
 use mathlib.Core.List.{List, []}
 use mathlib.Core.Path.{_≡_, refl, sym, ap, ap₂, _∙_}
 use native.Mathlib.Omega.{arith}
@@ -11,8 +11,7 @@ use Rattle.calculus.specs.Term.{Term, size}
 use Rattle.calculus.specs.Answer.{Reason, Answer, ok, refused, _>>=_, _>>_, require}
 use Rattle.calculus.specs.Words.{words, longest}
 use Rattle.calculus.specs.Scan.{read}
-use Rattle.calculus.specs.Infer.{infer}
-use Rattle.calculus.specs.Run.{Ended, run-from}
+use Rattle.calculus.specs.Run.{Ended}
 use Rattle.calculus.specs.Outcomes.{check-room, run-room, begun, cleared, verdict, checked, check-by, check, alone, course, ran, run-by, run}
 use Rattle.calculus.proofs.Comparisons.{le-leb}
 use Rattle.calculus.proofs.Coding.{emit-append, words-length}
@@ -22,7 +21,7 @@ use Rattle.term.proofs.Walking.{span-emit}
 use Rattle.feguavy.specs.Numbers.{checked-numbers, Numbered-check, ran-numbers, Numbered-run}
 use Rattle.feguavy.specs.declared.CheckedNumbers.{CheckedNumbers}
 use Rattle.feguavy.specs.declared.RanNumbers.{RanNumbers}
-use Rattle.report.specs.Report.{limit, budget, allowance, judged, told, Lines}
+use Rattle.report.specs.Report.{limit, budget, allowance, type-of, run-of, judged, told, Lines}
 use Rattle.report.specs.Shown.{shown, Tells}
 use Rattle.report.specs.declared.Findings.{Findings}
 
@@ -52,24 +51,24 @@ found n m k = record { answer = 0; place = 0; length = n .length; end = m .end; 
 
 -- The verdict on a term, and how it is then judged.
 data Judges (ws : List ℕ) : Answer Term → Answer (Term × Ended) → Type 0 where
-  typed : {t τ : Term} → read ws ≡ ok t → Judges ws (ok τ) (ok (τ, run-from (min budget allowance) t))
+  typed : {t τ : Term} → read ws ≡ ok t → Judges ws (ok τ) (ok (τ, run-of t))
   untyped : {r : Reason} {p : ℕ} → Judges ws (refused r p) (refused r p)
 
 judges-term : (ws : List ℕ) (t : Term) (x : Answer Term)
     → read ws ≡ ok t
-    → Judges ws x (x >>= λ τ. ok (τ, run-from (min budget allowance) t))
+    → Judges ws x (x >>= λ τ. ok (τ, run-of t))
 unfolding _>>=_
 judges-term ws t (ok τ) e = typed e
 judges-term ws t (refused r p) e = untyped
 
 judges-read : (ws : List ℕ) (x : Answer Term)
     → read ws ≡ x
-    → Judges ws (x >>= λ t. infer limit [] 0 t) (x >>= λ t. (infer limit [] 0 t >>= λ τ. ok (τ, run-from (min budget allowance) t)))
+    → Judges ws (x >>= type-of) (x >>= λ t. (type-of t >>= λ τ. ok (τ, run-of t)))
 unfolding _>>=_
-judges-read ws (ok t) e = judges-term ws t (infer limit [] 0 t) e
+judges-read ws (ok t) e = judges-term ws t (type-of t) e
 judges-read ws (refused r p) e = untyped
 
-judges : (ws : List ℕ) → Judges ws (read ws >>= λ t. infer limit [] 0 t) (judged ws)
+judges : (ws : List ℕ) → Judges ws (read ws >>= type-of) (judged ws)
 unfolding judged
 judges ws = judges-read ws (read ws) refl
 
@@ -86,7 +85,7 @@ same-lines a b c d = cc
 
 -- A call of a check with room enough.
 module _ (ws W O : List ℕ) (room : check-room limit ≤ length W) (space : limit ≤ length O) where
-  checks : check ws limit W O ≡ checked (check-room limit) W O (read ws >>= λ t. infer limit [] 0 t)
+  checks : check ws limit W O ≡ checked (check-room limit) W O (read ws >>= type-of)
   unfolding check-by verdict require _>>_ _>>=_
   checks = rw (le-leb (check-room limit) (length W) room, le-leb limit (length O) space) refl
 
@@ -126,7 +125,7 @@ module _ (ws W O : List ℕ) (room : check-room limit ≤ length W) (space : lim
           → Numbered-check (checked (check-room limit) W O x) n W₁ O₁
           → Tells (told y) (found n m k) O O₁ S S₂
       on (typed {t} {τ} d) c =
-          let x : Ended = run-from (min budget allowance) t in
+          let x : Ended = run-of t in
           let clear : run-room ≤ length W₁ = omega (arith, ap length (c .work), length-cleared (check-room limit) W) in
           let runs : run ws budget 0 (alone allowance) W₁ S ≡ ran run-room 0 (alone allowance) W₁ S (ok x)
           = rw (le-leb run-room (length W₁) clear, le-leb longest (length S) free, d) refl in

@@ -8,6 +8,8 @@ use Rattle.calculus.specs.Term.{Term}
 use Rattle.calculus.specs.Answer.{Answer, ok, refused, _>>=_, _>>_, require, number, length-not-allowed}
 use Rattle.calculus.specs.Words.{words}
 use Rattle.calculus.specs.Scan.{read}
+use Rattle.calculus.specs.Book.{types, bodies, seen}
+use Rattle.calculus.specs.Step.{step}
 use Rattle.calculus.specs.Infer.{infer}
 use Rattle.calculus.specs.Run.{Ended, run-from, end-number}
 use Rattle.text.specs.Pairs.{pairs, allowed}
@@ -23,12 +25,19 @@ budget = 1000
 abbrev pub allowance : ℕ
 allowance = 1000
 
+-- The type of a term, and its run: both over the empty book.
+abbrev pub type-of : Term → Answer Term
+type-of t = infer (types []) (step (seen 0 [])) limit [] 0 t
+
+abbrev pub run-of : Term → Ended
+run-of t = run-from (step (bodies [])) (min budget allowance) t
+
 -- The type and the run of the term that a list of words is, or the first refusal. "A refused term isn't run."
 unfoldable pub judged : List ℕ → Answer (Term × Ended)
 judged ws = do
   t ← read ws
-  τ ← infer limit [] 0 t
-  ok (τ, run-from (min budget allowance) t)
+  τ ← type-of t
+  ok (τ, run-of t)
 
 -- "An odd number of bytes, or over 2,048, is answer 4."
 unfoldable pub outcome : List ℕ → Answer (Term × Ended)

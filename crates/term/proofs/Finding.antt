@@ -7,7 +7,7 @@ use mathlib.Core.Path.{_≡_, refl, sym, _∙_}
 use native.Mathlib.Omega.{arith}
 use lib.ListN.{length, getD, take, drop, length-drop}
 use lib.Seq.{take-all, drop-at, drop-drop}
-use Rattle.calculus.specs.Term.{Term, var, star, app, lam, pi, castup, castdown, mu, size}
+use Rattle.calculus.specs.Term.{Term, var, star, app, lam, pi, castup, castdown, mu, name, size}
 use Rattle.calculus.specs.Words.{emit, words}
 use Rattle.calculus.specs.Answer.{Reason, ok, refused}
 use Rattle.calculus.specs.Meaning.{meaning, binds}
@@ -71,6 +71,7 @@ node (pi a b) = (_, refl, refl)
 node (castup a e) = (_, refl, refl)
 node (castdown e) = (_, refl, refl)
 node (mu a e) = (_, refl, refl)
+node (name i) = (_, refl, no-parts (2048 + i) (omega arith))
 
 read-node : (ws : List ℕ) (t : Term) → read ws ≡ ok t → Node ws
 unfolding found found-in

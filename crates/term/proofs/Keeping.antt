@@ -1,5 +1,6 @@
 -- Kept terms: two words a node. So a term kept at a node of a slice has its word and its length there, its first part at the next
--- node, its second behind the first; and a list begins with the kept words of one term only.
+-- node, its second behind the first; and a list begins with the kept words of one term only, of those whose indices have words of their
+-- own.
 use Prim.Native.Nat.{ℕ, suc, _+_, _*_, _-_, _≤_, _<_}
 use mathlib.Core.List.{List, [], _∷_, _++_}
 use mathlib.Core.Path.{_≡_, refl, sym, ap, _∙_}
@@ -7,8 +8,8 @@ use native.Mathlib.Nat.{add-zero}
 use native.Mathlib.Omega.{arith}
 use lib.ListN.{length, take, drop, getD, length-drop}
 use lib.Seq.{drop-drop, getD-drop, drop-append-seam, take-append-seam}
-use Rattle.calculus.specs.Term.{Term, var, star, app, lam, pi, castup, castdown, mu, size}
-use Rattle.calculus.specs.Words.{emit, words}
+use Rattle.calculus.specs.Term.{Term, var, star, app, lam, pi, castup, castdown, mu, name, size}
+use Rattle.calculus.specs.Words.{emit, words, Worded}
 use Rattle.calculus.proofs.Coding.{words-injective, size-positive}
 use Rattle.term.specs.Kept.{keep, kept, Lies, word-at, length-at}
 use Rattle.term.proofs.Nodes.{Two, keep-two, size-two}
@@ -27,6 +28,7 @@ keep-before (pi a b) j k = behind-node (ap (keep a) (keep-before b j k) ∙ keep
 keep-before (castup a e) j k = behind-node (ap (keep a) (keep-before e j k) ∙ keep-before a (keep e j) k)
 keep-before (castdown e) j k = behind-node (keep-before e j k)
 keep-before (mu a e) j k = behind-node (ap (keep a) (keep-before e j k) ∙ keep-before a (keep e j) k)
+keep-before (name i) j k = refl
 
 pub keep-append : (t : Term) (k : List ℕ) → keep t k ≡ kept t ++ k
 unfolding kept
@@ -42,6 +44,7 @@ keep-length (pi a b) k = omega (arith, keep-length a (keep b k), keep-length b k
 keep-length (castup a e) k = omega (arith, keep-length a (keep e k), keep-length e k)
 keep-length (castdown e) k = omega (arith, keep-length e k)
 keep-length (mu a e) k = omega (arith, keep-length a (keep e k), keep-length e k)
+keep-length (name i) k = omega arith
 
 pub kept-length : (t : Term) → length (kept t) ≡ 2 * size t
 unfolding kept
@@ -62,6 +65,7 @@ keep-size (pi a b) k = refl
 keep-size (castup a e) k = refl
 keep-size (castdown e) k = refl
 keep-size (mu a e) k = refl
+keep-size (name i) k = refl
 
 -- The plain words again: the first of each two.
 unfoldable pub spelled : List ℕ → List ℕ
@@ -79,13 +83,14 @@ keep-spelled (pi a b) k = ap (λ ws. 5 ∷ ws) (keep-spelled a (keep b k) ∙ ap
 keep-spelled (castup a e) k = ap (λ ws. 3 ∷ ws) (keep-spelled a (keep e k) ∙ ap (emit a) (keep-spelled e k))
 keep-spelled (castdown e) k = ap (λ ws. 1 ∷ ws) (keep-spelled e k)
 keep-spelled (mu a e) k = ap (λ ws. 6 ∷ ws) (keep-spelled a (keep e k) ∙ ap (emit a) (keep-spelled e k))
+keep-spelled (name i) k = refl
 
 pub kept-spelled : (t : Term) → spelled (kept t) ≡ words t
 unfolding kept words spelled
 kept-spelled t = keep-spelled t []
 
-pub kept-injective : (s t : Term) → kept s ≡ kept t → s ≡ t
-kept-injective s t h = words-injective s t (sym (kept-spelled s) ∙ ap spelled h ∙ kept-spelled t)
+pub kept-injective : (s t : Term) → Worded s → Worded t → kept s ≡ kept t → s ≡ t
+kept-injective s t hs ht h = words-injective s t hs ht (sym (kept-spelled s) ∙ ap spelled h ∙ kept-spelled t)
 
 -- Of a term that lies in a slice.
 pub lies-within : {t : Term} {slice : List ℕ} {n : ℕ} → Lies t slice n → 2 * (n + size t) ≤ length slice
@@ -148,9 +153,13 @@ pub lies-variable : {i : ℕ} {slice : List ℕ} {n : ℕ} → Lies (var i) slic
 unfolding keep
 lies-variable l = first-word l
 
+pub lies-name : {i : ℕ} {slice : List ℕ} {n : ℕ} → Lies (name i) slice n → word-at slice n ≡ 2048 + i
+unfolding keep
+lies-name l = first-word l
+
 -- A list begins with the kept words of one term only.
-keep-one : (s t : Term) (j k : List ℕ) → keep s j ≡ keep t k → s ≡ t
-keep-one s t j k h = kept-injective s t (sym (taken s j) ∙ ap (λ n. take (2 * n) (keep s j)) same ∙ ap (take (2 * size t)) h ∙ taken t k)
+keep-one : (s t : Term) (j k : List ℕ) → Worded s → Worded t → keep s j ≡ keep t k → s ≡ t
+keep-one s t j k hs ht h = kept-injective s t hs ht (sym (taken s j) ∙ ap (λ n. take (2 * n) (keep s j)) same ∙ ap (take (2 * size t)) h ∙ taken t k)
   where
     same : size s ≡ size t
     same = sym (keep-size s j) ∙ ap (λ ws. getD ws 1 0) h ∙ keep-size t k
@@ -158,5 +167,5 @@ keep-one s t j k h = kept-injective s t (sym (taken s j) ∙ ap (λ n. take (2 *
     taken : (r : Term) (l : List ℕ) → take (2 * size r) (keep r l) ≡ kept r
     taken r l = ap (take (2 * size r)) (keep-append r l) ∙ ap (λ m. take m (kept r ++ l)) (sym (kept-length r)) ∙ take-append-seam (kept r) l
 
-pub lies-one : {s t : Term} {slice : List ℕ} {n : ℕ} → Lies s slice n → Lies t slice n → s ≡ t
-lies-one {s} {t} l m = keep-one s t (l .rest) (m .rest) (sym (l .begins) ∙ m .begins)
+pub lies-one : {s t : Term} {slice : List ℕ} {n : ℕ} → Worded s → Worded t → Lies s slice n → Lies t slice n → s ≡ t
+lies-one {s} {t} hs ht l m = keep-one s t (l .rest) (m .rest) hs ht (sym (l .begins) ∙ m .begins)

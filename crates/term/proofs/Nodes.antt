@@ -6,8 +6,8 @@ use mathlib.Core.Path.{_≡_, refl, ap}
 use native.Mathlib.Nat.{add-zero}
 use native.Mathlib.Numerals.{add-one}
 use native.Mathlib.Omega.{arith}
-use Rattle.calculus.specs.Term.{Term, var, star, app, lam, pi, castup, castdown, mu, size, raise, substitute}
-use Rattle.calculus.specs.Words.{Scoped}
+use Rattle.calculus.specs.Term.{Term, var, star, app, lam, pi, castup, castdown, mu, name, size, raise, substitute}
+use Rattle.calculus.specs.Words.{Scoped, Worded}
 use Rattle.calculus.specs.Meaning.{meaning, binds}
 use Rattle.term.specs.Kept.{keep}
 
@@ -23,6 +23,7 @@ pub data Two : (Term → Term → Term) → ℕ → ℕ → Type 0 where
 pub data View : Term → Type 0 where
   a-variable : (i : ℕ) → View (var i)
   a-star : View star
+  a-name : (i : ℕ) → View (name i)
   one-part : (e : Term) → View (castdown e)
   two-parts : {c : Term → Term → Term} {w k : ℕ} → Two c w k → (a b : Term) → View (c a b)
 
@@ -35,6 +36,7 @@ view (pi a b) = two-parts two-pi a b
 view (castup a e) = two-parts two-castup a e
 view (castdown e) = one-part e
 view (mu a e) = two-parts two-mu a e
+view (name i) = a-name i
 
 pub keep-two : {c : Term → Term → Term} {w k : ℕ} → Two c w k → (a b : Term) (r : List ℕ) → keep (c a b) r ≡ w ∷ size (c a b) ∷ keep a (keep b r)
 unfolding keep
@@ -75,6 +77,14 @@ scoped-two two-castup n a b h = rw (add-zero n) h
 scoped-two two-lam n a b h = rw (add-one n) h
 scoped-two two-pi n a b h = rw (add-one n) h
 scoped-two two-mu n a b h = rw (add-one n) h
+
+pub worded-two : {c : Term → Term → Term} {w k : ℕ} → Two c w k → (a b : Term) → Worded (c a b) → Worded a × Worded b
+unfolding Worded
+worded-two two-app a b h = h
+worded-two two-castup a b h = h
+worded-two two-lam a b h = h
+worded-two two-pi a b h = h
+worded-two two-mu a b h = h
 
 pub binds-two : {c : Term → Term → Term} {w k : ℕ} → Two c w k → binds (meaning w) ≡ 0 ∷ k ∷ []
 unfolding binds meaning

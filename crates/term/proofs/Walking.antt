@@ -10,7 +10,7 @@ use native.Mathlib.Numerals.{one-add, add-one}
 use native.Mathlib.Omega.{arith}
 use lib.ListN.{length, getD, drop}
 use lib.Seq.{drop-cons}
-use Rattle.calculus.specs.Term.{Term, var, star, app, lam, pi, castup, castdown, mu, size}
+use Rattle.calculus.specs.Term.{Term, var, star, app, lam, pi, castup, castdown, mu, name, size}
 use Rattle.calculus.specs.Words.{emit, words, Readable}
 use Rattle.calculus.specs.Answer.{Answer, Reason, ok, refused}
 use Rattle.calculus.specs.Meaning.{meaning, binds}
@@ -90,6 +90,7 @@ passed (castup a e) = two-parts 3 a e refl (passed a) (passed e)
 passed (lam a e) = two-parts 4 a e refl (passed a) (passed e)
 passed (pi a b) = two-parts 5 a b refl (passed a) (passed b)
 passed (mu a e) = two-parts 6 a e refl (passed a) (passed e)
+passed (name i) = no-part (2048 + i) (no-parts (2048 + i) (omega arith))
 
 pub span-emit : (t : Term) (k : List ℕ) → span (emit t k) 1 ≡ size t
 span-emit t k = passed t k 0 ∙ omega (arith, span-none k)
@@ -102,7 +103,7 @@ read-term ws = on (read ws)
     on (ok t) h = (t, refl)
     on (refused r p) h = absurd (true≢false cc)
 
-pub reads-term : (ws : List ℕ) → outcome (read ws) ≡ ok tt → (t : Term) × (ws ≡ words t) × Readable t
+pub reads-term : (ws : List ℕ) → outcome (read ws) ≡ ok tt → (t : Term) × (ws ≡ words t) × Readable 0 t
 reads-term ws h =
     let (t, e) = read-term ws h in
     let (coded, readable) = read-sound ws t e in

@@ -4,7 +4,7 @@ use Prim.Native.Nat.{ℕ, suc, _+_, _*_}
 use mathlib.Core.List.{List, [], _∷_}
 use mathlib.Core.Path.{_≡_}
 use lib.ListN.{drop, getD}
-use Rattle.calculus.specs.Term.{Term, var, star, app, lam, pi, castup, castdown, mu, size}
+use Rattle.calculus.specs.Term.{Term, var, star, app, lam, pi, castup, castdown, mu, name, size}
 use Rattle.calculus.specs.Words.{words}
 use Rattle.calculus.specs.Parts.{PartAt}
 use Rattle.term.specs.Walk.{span}
@@ -20,6 +20,7 @@ keep (lam a e) k = 4 ∷ size (lam a e) ∷ keep a (keep e k)
 keep (pi a b) k = 5 ∷ size (pi a b) ∷ keep a (keep b k)
 keep (mu a e) k = 6 ∷ size (mu a e) ∷ keep a (keep e k)
 keep (var i) k = (16 + i) ∷ 1 ∷ k
+keep (name i) k = (2048 + i) ∷ 1 ∷ k
 
 -- The kept words of a term alone.
 unfoldable pub kept : Term → List ℕ

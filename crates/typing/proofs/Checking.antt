@@ -14,13 +14,15 @@ use Rattle.calculus.specs.Answer.{Answer, ok, refused}
 use Rattle.calculus.specs.Words.{words, levels, Readable, deepest}
 use Rattle.calculus.specs.Scan.{read}
 use Rattle.calculus.specs.Rules.{env-empty}
+use Rattle.calculus.specs.Book.{types, seen}
+use Rattle.calculus.specs.Step.{step}
 use Rattle.calculus.specs.Infer.{infer}
 use Rattle.calculus.specs.Outcomes.{check-room, begun, cleared, check}
-use Rattle.calculus.specs.Checks.{Allowed, Checks, unread, untyped, typed}
+use Rattle.calculus.specs.Checks.{Allowed, Checks, unread}
 use Rattle.calculus.proofs.Coding.{words-length}
 use Rattle.calculus.proofs.ReadBack.{refused-misread}
-use Rattle.calculus.proofs.CheckDemand.{check-answer}
-use Rattle.calculus.proofs.Inference.{infer-sound, refused-sound}
+use Rattle.calculus.proofs.CheckDemand.{check-answer, typed-answer, refused-answer}
+use Rattle.calculus.proofs.Books.{nothing-seen}
 use Rattle.term.specs.Reasons.{reason-of}
 use Rattle.term.specs.Subterms.{outcome}
 use Rattle.term.specs.declared.refusal.Refusal.{Refusal}
@@ -31,7 +33,7 @@ use Rattle.typing.specs.declared.Checked.{Checked}
 use Rattle.typing.specs.declared.Checked.the-variants as checked
 use Rattle.inference.specs.declared.Inferred.{Inferred}
 use Rattle.inference.specs.declared.Inferred.the-variants as inferred
-use Rattle.inference.specs.Inference.{Subject, Placed, Roomy, Infers, finds, refuses, inferred-of}
+use Rattle.inference.specs.Inference.{judge, Subject, Placed, Roomy, Infers, finds, refuses, inferred-of}
 use Rattle.typing.specs.Outcomes.{checked-of}
 use Rattle.inference.proofs.Scoping.{inferred-fits}
 use Rattle.inference.proofs.Passing as passing
@@ -39,9 +41,9 @@ use Rattle.inference.proofs.Passing as passing
 -- A refusal that leaves the slices as they were.
 pub refused-out : {ws : List ℕ} {L : ℕ} {W O : List ℕ} {r : Checked} {f : Refusal}
     → r ≡ checked.Refused f
-    → Checks ws L W O (record { answer = refused (reason-of (f .reason)) (f .place); work = W; output = O })
+    → Checks [] 0 ws L W O (record { answer = refused (reason-of (f .reason)) (f .place); work = W; output = O })
     → checked-of r W O ≡ check ws L W O
-refused-out {ws} {L} {W} {O} q d = ap (λ r. checked-of r W O) q ∙ sym (check-answer ws L W O d)
+refused-out {ws} {L} {W} {O} q d = ap (λ r. checked-of r W O) q ∙ sym (check-answer [] 0 ws L W O d)
 
 -- The limit is allowed, and the slices are long enough.
 pub record Admitted (L : ℕ) (W O : List ℕ) : Type 0 where
@@ -56,7 +58,7 @@ pub unread-out : (ws : List ℕ) {L : ℕ} {W O : List ℕ} (f : Refusal)
     → checked-of (checked.Refused f) W O ≡ check ws L W O
 unread-out ws f A e = refused-out {f = f} refl (unread (A .allowed) (A .room) (A .out) (refused-misread ws _ _ (reads-refusal ws e)))
 
-module _ {ws : List ℕ} {L : ℕ} {W O : List ℕ} {t : Term} (A : Admitted L W O) (coded : ws ≡ words t) (readable : Readable t) where
+module _ {ws : List ℕ} {L : ℕ} {W O : List ℕ} {t : Term} (A : Admitted L W O) (coded : ws ≡ words t) (readable : Readable 0 t) where
   pub whole : (places : List ℕ) → length places ≡ deepest → Subject [] t ws ws places 0
   unfolding words Placed
   whole places enough =
@@ -72,6 +74,7 @@ module _ {ws : List ℕ} {L : ℕ} {W O : List ℕ} {t : Term} (A : Admitted L W
         wide = enough;
         well-formed = env-empty;
         scoped = readable .closed;
+        named = readable .named;
         deep = omega (arith, readable .shallow);
       }
 
@@ -85,17 +88,21 @@ module _ {ws : List ℕ} {L : ℕ} {W O : List ℕ} {t : Term} (A : Admitted L W
             omega (arith, length-take-le (check-room L) W (A .room), mul-le-mul-right L few);
       }
 
+-- Over the empty book every owner sees what inference is over.
+judged : (L : ℕ) (t : Term) → infer (types []) (step (seen 0 [])) L [] 0 t ≡ judge L [] 0 t
+judged L t = ap (λ v. infer (types []) (step v) L [] 0 t) (nothing-seen 0)
+
 -- Inference was asked for the type of the whole term, answered `r` and left `after` in the first words of the working slice.
 pub record Asked (ws : List ℕ) (L : ℕ) (W O : List ℕ) (r : Inferred) (after : List ℕ) : Type 0 where
   pub admitted : Admitted L W O
   pub term : Term
   pub coded : ws ≡ words term
-  pub readable : Readable term
+  pub readable : Readable 0 term
   pub place : ℕ
   pub outermost : place ≡ 0
   pub places : List ℕ
   pub places′ : List ℕ
-  pub infers : Infers (infer L [] place term) term places 0 (take (check-room L) W) 0 r after places′
+  pub infers : Infers (judge L [] place term) term places 0 (take (check-room L) W) 0 r after places′
   pub same : length after ≡ length (take (check-room L) W)
 
 module _ {ws : List ℕ} {L : ℕ} {W O : List ℕ} {r : Inferred} {after : List ℕ} (a : Asked ws L W O r after) where
@@ -118,10 +125,9 @@ module _ {ws : List ℕ} {L : ℕ} {W O : List ℕ} {r : Inferred} {after : List
       → work′ ≡ cleared (512 * (2 * L)) (after ++ drop (check-room L) W)
       → checked-of (checked.Refused f) work′ O ≡ check ws L W O
   untyped-out {f} q e =
-      let x = subst (λ n. infer L [] n term ≡ refused (reason-of (f .reason)) (f .place)) outermost (turned infers) in
-      let d = refused-sound env-empty (readable .closed) x in
+      let x = subst (λ n. judge L [] n term ≡ refused (reason-of (f .reason)) (f .place)) outermost (turned infers) in
       ap (λ w. checked-of (checked.Refused f) w O) (e ∙ cleared-all)
-      ∙ sym (check-answer ws L W O (untyped allowed room out (coded, readable) d))
+      ∙ sym (refused-answer [] 0 ws L W O allowed room out (coded, readable) (judged L term ∙ x))
     where
       turned : {x : Answer Term}
           → Infers x term places 0 (take (check-room L) W) 0 r after places′
@@ -133,7 +139,7 @@ module _ {ws : List ℕ} {L : ℕ} {W O : List ℕ} {r : Inferred} {after : List
     open passing.Part (passing.typed infers q) using (type as τ, found, long as type-long, lies)
 
     type-short : m ≤ L
-    type-short = omega (arith, type-long, inferred-fits L place term env-empty (readable .closed) found)
+    type-short = omega (arith, type-long, inferred-fits L place term env-empty (readable .closed) (readable .named) found)
 
     pub type-within : 2 * m ≤ length (after ++ drop (check-room L) W)
     type-within = omega (arith, type-short, long, length-append after (drop (check-room L) W))
@@ -150,8 +156,8 @@ module _ {ws : List ℕ} {L : ℕ} {W O : List ℕ} {r : Inferred} {after : List
         → work′ ≡ cleared (512 * (2 * L)) (after ++ drop (check-room L) W)
         → checked-of (checked.Typed m) work′ output′ ≡ check ws L W O
     typed-out {work′} {output′} s e =
-        let d = infer-sound 0 env-empty (readable .closed) (subst (λ k. infer L [] k term ≡ ok τ) outermost found) in
+        let x = subst (λ k. judge L [] k term ≡ ok τ) outermost found in
         ap (λ k. checked-of (checked.Typed k) work′ output′) type-long
         ∙ ap (λ l. checked-of (checked.Typed (size τ)) l output′) (e ∙ cleared-all)
         ∙ ap (checked-of (checked.Typed (size τ)) (cleared (check-room L) W)) (s τ type-kept)
-        ∙ sym (check-answer ws L W O (typed allowed room out (coded, readable) d))
+        ∙ sym (typed-answer [] 0 ws L W O allowed room out (coded, readable) (judged L term ∙ x))

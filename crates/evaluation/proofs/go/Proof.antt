@@ -13,6 +13,7 @@ use Rattle.calculus.specs.Kinds.{total}
 use Rattle.calculus.specs.Run.{run-from}
 use Rattle.calculus.proofs.Counting.{total-counting}
 use Rattle.reduction.specs.declared.stepping.Stepped.{Stepped}
+use Rattle.reduction.specs.Stepping.{next-of}
 use Rattle.evaluation.specs.declared.End.{End}
 use Rattle.evaluation.specs.Courses.{AddUp, Goes, Holds, buffer}
 use Rattle.evaluation.proofs.States.{buffer-room}
@@ -66,7 +67,7 @@ module _ (c : tie.After-advance Inv-loop μ-loop) (t : Term)
       → Stops s E
       → c .advance .result ≡ s
       → let loop = c .before .before .before .before .before in
-      Goes (run-from (loop .before .before .before .args .grant) t)
+      Goes (run-from next-of (loop .before .before .before .args .grant) t)
       (record { end = E; steps = loop .loop .steps; length = loop .loop .count; lent = loop .loop .lent })
       (buffer (loop .loop .lent) (c .advance .last .1 .0) (c .advance .last .1 .1 .0))
   stops o told =

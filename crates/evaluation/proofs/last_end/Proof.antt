@@ -11,7 +11,7 @@ use Rattle.calculus.specs.Step.{next, under, applied, cancelled, step}
 use Rattle.calculus.specs.Run.{spent, last-end}
 use Rattle.reduction.specs.declared.stepping.Redex.{Redex}
 use Rattle.reduction.specs.declared.stepping.Redex.the-variants as redex
-use Rattle.reduction.specs.Stepping.{locate}
+use Rattle.reduction.specs.Stepping.{locate, next-of}
 use Rattle.reduction.proofs.stepping.Redex.{the-type}
 use Rattle.reduction.proofs.Frames.{step-around}
 use Rattle.reduction.proofs.Redexes.{Inside, splits-at}
@@ -19,14 +19,14 @@ use Rattle.evaluation.proofs.last_end.Statement.{statement}
 use Rattle.evaluation.proofs.last_end.Tie as tie
 
 -- A state whose part steps has a next one.
-goes-on : {x s y : Term} {n : ℕ} {k : Kind} → Inside x n s → step s ≡ next k y → spent ≡ last-end (step x)
+goes-on : {x s y : Term} {n : ℕ} {k : Kind} → Inside x n s → next-of s ≡ next k y → spent ≡ last-end (next-of x)
 unfolding last-end
 goes-on {y} i h = rw (step-around (i .around y) h) refl
 
 with-redex : (x : Term) (r : Redex)
     → locate x ≡ r
     → OneOf (2 ∷ 3 ∷ 4 ∷ []) (tagOf the-type r)
-    → spent ≡ last-end (step x)
+    → spent ≡ last-end (next-of x)
 unfolding step under applied cancelled
 with-redex x redex.Value e k = absurd (miss (2 ∷ 3 ∷ 4 ∷ []) 0 tt k)
 with-redex x redex.Stuck e k = absurd (miss (2 ∷ 3 ∷ 4 ∷ []) 1 tt k)

@@ -10,6 +10,7 @@ use Rattle.calculus.specs.Term.{Term}
 use Rattle.calculus.specs.Words.{Readable, words, longest}
 use Rattle.calculus.specs.Run.{run-from}
 use Rattle.calculus.proofs.Coding.{words-length}
+use Rattle.reduction.specs.Stepping.{next-of}
 use Rattle.evaluation.specs.Courses.{Goes, buffer}
 use Rattle.evaluation.proofs.States.{buffer-room, noted-held, stored-behind}
 use Rattle.evaluation.proofs.perform.Statement.{statement}
@@ -36,8 +37,8 @@ go-requires c κs =
 went : (c : tie.After-go) (t : Term)
     → let start = c .before .before .before .before .before .before .before .before .before .before in
     now (start .args .term) ≡ words t
-    → Readable t
-    → Goes (run-from (start .args .grant) t) (c .go .result)
+    → Readable 0 t
+    → Goes (run-from next-of (start .args .grant) t) (c .go .result)
     (buffer (c .go .result .lent) (c .go .last .1 .1 .0) (c .go .last .1 .1 .1 .0))
 went c t e r =
     let note = c .before .before .before .before .before in

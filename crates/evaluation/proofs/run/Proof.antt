@@ -16,6 +16,7 @@ use Rattle.calculus.specs.Runs.{caller-refused, work-refused, state-refused, un
 use Rattle.calculus.proofs.ReadBack.{refused-misread}
 use Rattle.term.specs.Subterms.{reading-of}
 use Rattle.term.proofs.Walking.{reads-term, reads-refusal}
+use Rattle.reduction.specs.Stepping.{next-of}
 use Rattle.evaluation.specs.Courses.{Performs}
 use Rattle.evaluation.proofs.Answers.{meets-refusal, steps-within, meets-course}
 use Rattle.evaluation.proofs.run.Statement.{statement}
@@ -24,7 +25,7 @@ use Rattle.evaluation.proofs.run.Tie as tie
 -- What is read.
 term-read : (c : tie.After-enum-told)
     → let a = c .before .before .before .before .before .before .before .before .before .args in
-    (t : Term) × (now (a .term) ≡ words t) × Readable t
+    (t : Term) × (now (a .term) ≡ words t) × Readable 0 t
 term-read c =
     let read = c .before .before in
     let a = read .before .before .before .before .before .before .before .args in
@@ -42,7 +43,7 @@ granted c =
 performed : (c : tie.After-perform)
     → let told = c .before .before .before .before .before in
     let a = told .before .before .before .before .before .before .before .before .before .args in
-    Performs (run-from (grant (a .budget) (a .caller) (a .desk .allowances)) (term-read told .0)) (now (a .work)) (now (a .state))
+    Performs (run-from next-of (grant (a .budget) (a .caller) (a .desk .allowances)) (term-read told .0)) (now (a .work)) (now (a .state))
     (c .perform .result) (c .perform .last .1 .1 .0) (c .perform .last .1 .1 .1 .0)
 performed c =
     let told = c .before .before .before .before .before in
@@ -50,7 +51,7 @@ performed c =
     let (t, e, r) = term-read told in
     subst
     (λ g.
-    Performs (run-from g t) (now (a .work)) (now (a .state)) (c .perform .result) (c .perform .last .1 .1 .0)
+    Performs (run-from next-of g t) (now (a .work)) (now (a .state)) (c .perform .result) (c .perform .last .1 .1 .0)
     (c .perform .last .1 .1 .1 .0))
     (granted (c .before .before .before)) (c .perform .ensures t e r)
 

@@ -1,8 +1,10 @@
 -- `feguavy_run` meets its contract: its numbers are those of what `run` answers, and the cast keeps a refused place, which is
 -- at most 1,024. That it is safe is demand 3 of the calculus.
+use mathlib.Core.List.{[]}
 use borrow.Author.Needs.{needs}
 use denote.Ref.{now}
 use native.Mathlib.Omega.{arith}
+use Rattle.calculus.specs.Growing.{nothing-added}
 use Rattle.calculus.proofs.SafetyDemand.{demand3}
 use Rattle.feguavy.proofs.Answered.{ended-numbers, unrun-numbers, unrun-place}
 use Rattle.feguavy.proofs.feguavy_run.Statement.{statement}
@@ -19,13 +21,13 @@ returns : tie.Need-returns
 returns c =
     let k = c .before .before .before .before .before .before .before .before .before .run in
     let numbered = ended-numbers (k .result) (k .ensures .0) _ _ _ (c .before .before .answer .given .1) (c .number-of-end .ensures) in
-    (numbered, (_, numbered, demand3 .0 _ _ _ _ _ _))
+    (numbered, (_, numbered, demand3 .0 [] [] nothing-added nothing-added _ _ _ _ _ _))
 
 returns-2 : tie.Need-returns-2
 returns-2 c =
     let k = c .before .before .before .before .before .before .before .before .before .before .run in
     let numbered = unrun-numbers (k .result) (k .ensures .0) _ _ (c .before .before .before .answer2 .given .1) (c .before .number .ensures) in
-    (numbered, (_, numbered, demand3 .0 _ _ _ _ _ _))
+    (numbered, (_, numbered, demand3 .0 [] [] nothing-added nothing-added _ _ _ _ _ _))
 
 pub feguavy-run-spec : {M : Type 1} → statement M
 feguavy-run-spec =

@@ -12,6 +12,7 @@ use Rattle.inference.specs.Inference.{Annotation, inferred-of}
 use Rattle.inference.proofs.Annotated.{annotation-span, annotation-words, annotation-fits, annotation-noted, raises}
 use Rattle.inference.proofs.variable.Statement.{statement}
 use Rattle.inference.proofs.variable.Tie as tie
+use Rattle.kept.proofs.InPlace.{fits-worded}
 
 returns : tie.Need-returns
 returns c = λ a k.
@@ -64,7 +65,7 @@ returns-2 c = λ a k.
     let few = m .before .before .before .if1 .left in
     let whole = annotation-noted k (g .work .now) (g .top) (g .limit) (v .span .result) same few (s .pre .1) noted in
     raises k (g .work .now) (g .top) (g .limit) (v .span .result) same few (s .pre .1) noted (g .place)
-    (r .raise .ensures a whole)
+    (r .raise .ensures a whole (fits-worded (annotation-fits k)))
 
 pub variable-spec : {M : Type 1} → statement M
 variable-spec =

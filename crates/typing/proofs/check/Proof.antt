@@ -45,7 +45,7 @@ returns-5 c =
 -- Past reading.
 term-read : (c : tie.After-enum-told)
     → let ws = c .before .before .before .before .before .before .before .before .before .before .args .term .now in
-    (t : Term) × (ws ≡ words t) × Readable t
+    (t : Term) × (ws ≡ words t) × Readable 0 t
 term-read c =
     let r = c .before .before in
     let ws = r .before .before .before .before .before .before .before .before .args .term .now in

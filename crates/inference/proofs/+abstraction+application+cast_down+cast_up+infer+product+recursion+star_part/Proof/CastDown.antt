@@ -11,11 +11,10 @@ use lib.ListN.{length}
 use Rattle.calculus.specs.Term.{Term, castdown, size}
 use Rattle.calculus.specs.Rules.{Context}
 use Rattle.calculus.specs.Infer.{infer}
-use Rattle.calculus.specs.Step.{step}
-use Rattle.inference.specs.Inference.{Subject}
+use Rattle.inference.specs.Inference.{judge, Subject}
 use Rattle.inference.proofs.Subjects.{behind, subject-long, subject-some, inside, place-first}
 use Rattle.inference.proofs.Rooms.{castdown-levels, room-two}
-use Rattle.inference.proofs.Types.{type-fits, type-held}
+use Rattle.inference.proofs.Types.{type-fits, type-held, type-worded}
 use Rattle.inference.proofs.Passing.{Part, found, passed, turned, typed}
 use Rattle.inference.proofs.Moved.{moved, over-limit, rests}
 use Rattle.inference.proofs.Written.{written-type}
@@ -23,6 +22,8 @@ use Rattle.inference.proofs.Casting.{down, down-rests, down-over, down-
 use Rattle.inference.proofs.cast_down.Reads as cast-down
 use Rattle.inference.proofs.+abstraction+application+cast_down+cast_up+infer+product+recursion+star_part.Lts-cast_down as cast-down-lts
 use Rattle.inference.proofs.+abstraction+application+cast_down+cast_up+infer+product+recursion+star_part.Proof.Measures.{cast-down-at, cast-down-claims, part-asked}
+use Rattle.calculus.specs.Words.{Worded}
+use Rattle.reduction.specs.Stepping.{next-of}
 
 -- The start, from where the body is typed.
 abbrev start-place : (t : ℕ)
@@ -36,7 +37,7 @@ typed-body : (t : ℕ) (c : cast-down-lts.After-body (cast-down-claims t) (cast-
     → let after-infer = c .before .before .before .before .before .before in
     let start = after-infer .before .before .before .before .before .before .before .before .before in
     Subject Γ (castdown e) (start .args .term .now) (start .args .sub .now) (start .args .context .now) (start .args .depth)
-    → Part (infer (start .args .limit) Γ (length (start .args .term .now) - length (behind 1 (start .args .sub .now))) e) e
+    → Part (judge (start .args .limit) Γ (length (start .args .term .now) - length (behind 1 (start .args .sub .now))) e) e
     (start .args .context .now) (start .args .depth) (start .args .work .now) (start .args .top) (c .body .given .0 .0)
     (c .body .given .0 .1 .0) (after-infer .infer .last .1 .1 .1 .1 .0) (after-infer .infer .last .1 .1 .0)
 typed-body t c Γ e S = typed (c .before .before .before .before .before .before .infer .ensures Γ e (inside S))
@@ -92,20 +93,27 @@ add-t33 t c =
     let E = inside (P .2) in
     omega (arith, typed-body t after-body (P .0) (P .1) (P .2) .read, subject-long E, E .within, E .short)
 
+-- The type has words of its own.
+has : (t : ℕ) (c : cast-down-lts.After-body (cast-down-claims t) (cast-down-at t) cast-down.Post) (Γ : Context) (e : Term)
+    → let start = start-place t c in
+    (S : Subject Γ (castdown e) (start .args .term .now) (start .args .sub .now) (start .args .context .now) (start .args .depth))
+    → Worded (typed-body t c Γ e S .type)
+has t c Γ e S = type-worded (inside S) _ _ (typed-body t c Γ e S .found) (start-place t c .pre .1 .1 .3 .allowed)
+
 returns-2 : (t : ℕ) → cast-down-lts.Need-returns-2 (cast-down-claims t) (cast-down-at t) cast-down.Post
 returns-2 t c Γ e S =
     let after-step-type = c .before .before .before .before .before .before in
     let B = typed-body t (after-step-type .before .before .before .before) Γ e S in
     turned
     (down-rests _ Γ _ _ e (place-first S) (B .found)
-    (rests _ _ _ _ _ _ (step (B .type)) (after-step-type .step-type .ensures (B .type) (B .lies)) (c .before .match2 .keys1)))
+    (rests _ _ _ _ _ _ (next-of (B .type)) (after-step-type .step-type .ensures (B .type) (B .lies) (has t (after-step-type .before .before .before .before) Γ e S)) (c .before .match2 .keys1)))
     (c .refused .ensures)
 
 returns-3 : (t : ℕ) → cast-down-lts.Need-returns-3 (cast-down-claims t) (cast-down-at t) cast-down.Post
 returns-3 t c Γ e S =
     let after-step-type = c .before .before .before .before .before .before .before in
     let B = typed-body t (after-step-type .before .before .before .before) Γ e S in
-    let o = over-limit _ _ _ _ _ (step (B .type)) (after-step-type .step-type .ensures (B .type) (B .lies))
+    let o = over-limit _ _ _ _ _ (next-of (B .type)) (after-step-type .step-type .ensures (B .type) (B .lies) (has t (after-step-type .before .before .before .before) Γ e S))
     (c .before .enum-told2 .given .1) in
     turned (down-over _ Γ _ _ e (place-first S) (B .found) (o .1) (o .2) (o .3)) (c .refused2 .ensures)
 
@@ -117,7 +125,7 @@ returns-4 t c Γ e S =
     let after-infer = after-body .before .before .before .before .before .before in
     let start = after-infer .before .before .before .before .before .before .before .before .before in
     let B = typed-body t after-body Γ e S in
-    let m = moved _ _ _ _ _ (step (B .type)) (after-step-type .step-type .ensures (B .type) (B .lies))
+    let m = moved _ _ _ _ _ (next-of (B .type)) (after-step-type .step-type .ensures (B .type) (B .lies) (has t (after-step-type .before .before .before .before) Γ e S))
     (c .before .count .given .1) in
     found
     (down-typed _ Γ _ _ e (place-first S) (B .found) (m .state) (m .steps) (m .fits))

@@ -22,6 +22,7 @@ use Rattle.inference.proofs.cast_up.Reads as cast-up
 use Rattle.inference.proofs.+abstraction+application+cast_down+cast_up+infer+product+recursion+star_part.Lts-cast_up as cast-up-lts
 use Rattle.inference.proofs.+abstraction+application+cast_down+cast_up+infer+product+recursion+star_part.Proof.Measures.{cast-up-at, cast-up-claims, part-asked}
 use Rattle.inference.proofs.+abstraction+application+cast_down+cast_up+infer+product+recursion+star_part.Proof.CastUp.Known.{start-place, annotation-place, stepped-place, typed-annotation, reach, noted, both, long, held-long, room, moves, long-still, held-still, next-state, room-next, compared}
+use Rattle.reduction.specs.Stepping.{next-of}
 
 star-part-requires : (t : ℕ) → cast-up-lts.Need-star-part-requires (cast-up-claims t) (cast-up-at t) cast-up.Post
 star-part-requires t c κs =
@@ -79,13 +80,13 @@ returns-3 t c Γ a e S =
     turned
     (up-rests
     (both t (after-step-into .before .before .before .before) Γ a e S)
-    (rests _ _ _ _ _ _ (step a) (moves t after-step-into Γ a e S) (c .before .match3 .keys1)))
+    (rests _ _ _ _ _ _ (next-of a) (moves t after-step-into Γ a e S) (c .before .match3 .keys1)))
     (c .refused .ensures)
 
 returns-4 : (t : ℕ) → cast-up-lts.Need-returns-4 (cast-up-claims t) (cast-up-at t) cast-up.Post
 returns-4 t c Γ a e S =
     let after-step-into = c .before .before .before .before .before .before .before in
-    let o = over-limit _ _ _ _ _ (step a) (moves t after-step-into Γ a e S) (c .before .enum-told3 .given .1) in
+    let o = over-limit _ _ _ _ _ (next-of a) (moves t after-step-into Γ a e S) (c .before .enum-told3 .given .1) in
     turned (up-step-over (both t (after-step-into .before .before .before .before) Γ a e S) (o .1) (o .2) (o .3))
     (c .refused2 .ensures)
 

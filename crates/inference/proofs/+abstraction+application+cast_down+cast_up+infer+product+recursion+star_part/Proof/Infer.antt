@@ -14,7 +14,7 @@ use Rattle.calculus.proofs.Testing.{fitting}
 use Rattle.term.specs.Kept.{keep, kept}
 use Rattle.inference.specs.declared.Inferred.{Inferred}
 use Rattle.inference.specs.Moving.{held-room}
-use Rattle.inference.specs.Inference.{Subject, Roomy, Infers}
+use Rattle.inference.specs.Inference.{Subject, Roomy, Infers, judge}
 use Rattle.inference.proofs.Heads.{Headed, subject-headed}
 use Rattle.inference.proofs.Passing.{found}
 use Rattle.inference.proofs.Rooms.{room-two, roomy-renamed}
@@ -38,9 +38,9 @@ module _ (K : Term → Term → Term) {Γ : Context} {e : Term} {term sub places
   asked R words room = (omega arith, (room, (Γ, node .0, node .1, renamed S (node .2), roomy-renamed R (node .2))))
 
   answered : (L p : ℕ) {work : List ℕ} {top : ℕ} {r : Inferred} {after places′ : List ℕ}
-      → ((a b : Term) → Subject Γ (K a b) term sub places depth → Infers (calculus.infer L Γ p (K a b))
+      → ((a b : Term) → Subject Γ (K a b) term sub places depth → Infers (judge L Γ p (K a b))
       (K a b) places depth work top r after places′)
-      → Infers (calculus.infer L Γ p e) e places depth work top r after places′
+      → Infers (judge L Γ p e) e places depth work top r after places′
   answered L p f = rw (node .2) (f (node .0) (node .1) (renamed S (node .2)))
 
 -- The subterm is the variable that its word says.

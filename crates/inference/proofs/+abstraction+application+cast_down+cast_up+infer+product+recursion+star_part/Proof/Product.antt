@@ -14,7 +14,7 @@ use Rattle.calculus.specs.Rules.{Context}
 use Rattle.calculus.specs.Infer.{infer, same, measure}
 use Rattle.calculus.proofs.Testing.{equal, fitting}
 use Rattle.inference.specs.declared.Inferred.the-variants as inferred
-use Rattle.inference.specs.Inference.{Subject, star-typed}
+use Rattle.inference.specs.Inference.{judge, Subject, star-typed}
 use Rattle.inference.proofs.Parts.{annotation-found, second-place, reaches, below, below-context, below-wide}
 use Rattle.inference.proofs.Passing.{Part, passed, typed, found, lying, star-first, starred}
 use Rattle.inference.proofs.Rooms.{subject-shallow}
@@ -27,18 +27,18 @@ use Rattle.inference.proofs.+abstraction+application+cast_down+cast_up+
 -- What inference answers, by what it found of the parts.
 module _ (L : ℕ) (Γ : Context) (p : ℕ) (a b : Term) where
   by-domain : {q : ℕ} → q ≡ suc p
-      → infer L Γ p (pi a b)
+      → judge L Γ p (pi a b)
       ≡ (star-typed L Γ q a >>= λ _.
-      infer L (a ∷ Γ) (suc p + size a) b >>= λ τ. require not-star (suc p + size a) (same τ star) >> measure L p star)
+      judge L (a ∷ Γ) (suc p + size a) b >>= λ τ. require not-star (suc p + size a) (same τ star) >> measure L p star)
   unfolding infer star-typed
-  by-domain x = rw x (star-first (infer L Γ (suc p) a) (suc p) _)
+  by-domain x = rw x (star-first (judge L Γ (suc p) a) (suc p) _)
 
-  by-codomain : {q : ℕ} → infer L Γ (suc p) a ≡ ok star → q ≡ suc p + size a
-      → infer L Γ p (pi a b) ≡ (star-typed L (a ∷ Γ) q b >>= λ _. measure L p star)
+  by-codomain : {q : ℕ} → judge L Γ (suc p) a ≡ ok star → q ≡ suc p + size a
+      → judge L Γ p (pi a b) ≡ (star-typed L (a ∷ Γ) q b >>= λ _. measure L p star)
   unfolding infer star-typed _>>=_ _>>_ require
-  by-codomain f x = rw (f, equal star, x) (star-first (infer L (a ∷ Γ) (suc p + size a) b) (suc p + size a) (measure L p star))
+  by-codomain f x = rw (f, equal star, x) (star-first (judge L (a ∷ Γ) (suc p + size a) b) (suc p + size a) (measure L p star))
 
-  by-both : infer L Γ (suc p) a ≡ ok star → infer L (a ∷ Γ) (suc p + size a) b ≡ ok star → 1 ≤ L → infer L Γ p (pi a b) ≡ ok star
+  by-both : judge L Γ (suc p) a ≡ ok star → judge L (a ∷ Γ) (suc p + size a) b ≡ ok star → 1 ≤ L → judge L Γ p (pi a b) ≡ ok star
   unfolding infer _>>=_ _>>_ require size
   by-both f g h = rw (f, equal star, g, equal star) (fitting p star h)
 

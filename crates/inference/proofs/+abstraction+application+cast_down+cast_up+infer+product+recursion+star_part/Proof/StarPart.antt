@@ -17,7 +17,7 @@ use Rattle.term.specs.Kept.{word-at}
 use Rattle.term.specs.Word.{meaning-of}
 use Rattle.inference.specs.declared.Inferred.{Inferred}
 use Rattle.inference.specs.declared.Inferred.the-variants as inferred
-use Rattle.inference.specs.Inference.{Subject, Infers, star-typed}
+use Rattle.inference.specs.Inference.{judge, Subject, Infers, star-typed}
 use Rattle.inference.proofs.Passing.{Part, lying, passed, typed, turned, found}
 use Rattle.inference.proofs.Heads.{Headed, not-star, type-headed, type-meaning}
 use Rattle.inference.proofs.star_part.Reads as star-part
@@ -28,7 +28,7 @@ use Rattle.inference.proofs.+abstraction+application+cast_down+cast_up+
 starred : (L p : ℕ) {Γ : Context} {e : Term} {term sub places : List ℕ} {depth : ℕ} {work : List ℕ} {top n m : ℕ} {r : Inferred}
     {after places′ : List ℕ}
     → Subject Γ e term sub places depth
-    → Part (infer L Γ p e) e places depth work top n m after places′
+    → Part (judge L Γ p e) e places depth work top n m after places′
     → r ≡ inferred.Typed n m
     → a-star ≡ meaning (word-at after top)
     → Infers (star-typed L Γ p e) e places depth work top r after places′
@@ -50,7 +50,7 @@ starred L p S part q w =
 -- A type whose first word is not that of star.
 unstarred : (L : ℕ) (Γ : Context) (p : ℕ) {e : Term} {places : List ℕ} {depth : ℕ} {work : List ℕ} {top n m : ℕ}
     {after places′ : List ℕ}
-    → Part (infer L Γ p e) e places depth work top n m after places′
+    → Part (judge L Γ p e) e places depth work top n m after places′
     → meaning (word-at after top) ≢ a-star
     → star-typed L Γ p e ≡ refused reason.not-star p
 unfolding star-typed _>>=_ _>>_ require emit meaning

@@ -8,6 +8,7 @@ use native.Mathlib.Omega.{arith}
 use borrow.Author.Needs.{needs}
 use lib.ListN.{length, take, drop}
 use Rattle.calculus.specs.Term.{Term, pi, size}
+use Rattle.calculus.specs.Words.{Worded}
 use Rattle.term.specs.Kept.{kept}
 use Rattle.inference.proofs.Compared.{compared}
 use Rattle.inference.proofs.Domains.{product-long, domain-lies, domain-some, domain-cut, codomain-cut, codomain-extent, product-codomain, applies-wrong, applies-right}
@@ -53,21 +54,24 @@ reach c =
 told : (c : tie.After-same) (a b σ : Term)
     → let s = start-place (measure-place c) in
     take (2 * s .args .count) (drop (2 * s .args .top) (s .args .work .now)) ≡ kept (pi a b)
+    → Worded a
     → take (2 * s .args .own) (drop (2 * (s .args .top + s .args .count)) (s .args .work .now)) ≡ kept σ
+    → Worded σ
     → (not (c .same .result) ≡ true → σ ≢ a) × (not (c .same .result) ≡ false → σ ≡ a)
-told c a b σ h k =
+told c a b σ h ha k hk =
     let m = measure-place c in
     let s = start-place m in
     let domain = s .args .top + 1 in
     let next = s .args .top + s .args .count in
     let words = 2 * (domain + m .length-at .result) - 2 * domain in
     let many : 2 * (next + s .args .own) - 2 * next ≡ 2 * s .args .own = omega arith in
-    compared σ a
+    compared σ a hk ha
     (domain-cut (s .args .work .now) (s .args .top) (s .args .count) (inside s) a b h (measured m a b h) words (omega arith))
     (ap (λ n. take n (drop (2 * next) (s .args .work .now))) many ∙ k) (c .same .ensures)
 
 returns : tie.Need-returns
-returns c = λ a b u σ h l k. applies-wrong (told (c .before) a b σ h k .0 (c .if1 .taken))
+unfolding Worded
+returns c = λ a b u σ h hp l hu k hk. applies-wrong (told (c .before) a b σ h (hp .0) k hk .0 (c .if1 .taken))
 
 put-in-requires : tie.Need-put-in-requires
 put-in-requires c κs =
@@ -80,16 +84,17 @@ put-in-requires c κs =
     (s .pre .0, (p .0, p .1, product-codomain (g .work .now) (g .top) (g .count) (inside s) P same, p .4))
 
 returns-2 : tie.Need-returns-2
-returns-2 c = λ a b u σ h l k.
+unfolding Worded
+returns-2 c = λ a b u σ h hp l hu k hk.
     let put-in = c .before .before .before .before in
     let else = put-in .before .before .before in
     let m = measure-place (else .before) in
     let s = start-place m in
     let n = measured m a b h in
-    applies-right (told (else .before) a b σ h k .1 (else .if1 .left))
+    applies-right (told (else .before) a b σ h (hp .0) k hk .1 (else .if1 .left))
     (put-in .put-in .ensures b u
-    (codomain-cut (s .args .work .now) (s .args .top) (s .args .count) (inside s) a b h n)
-    (codomain-extent (s .args .work .now) (s .args .top) (s .args .count) (inside s) a b h n) l)
+    (codomain-cut (s .args .work .now) (s .args .top) (s .args .count) (inside s) a b h n) (hp .1)
+    (codomain-extent (s .args .work .now) (s .args .top) (s .args .count) (inside s) a b h n) l hu)
 
 pub apply-spec : {M : Type 1} → statement M
 apply-spec =

@@ -30,14 +30,14 @@ put-held-requires c κs =
     (p .0, p .1, pair-held (s .pre .0) (p .2) (v .copy .ensures) (p .3) (m .note .ensures))
 
 returns : tie.Need-returns
-returns c = λ b u h l k.
+returns c = λ b u h hb l k hu.
     let m = c .before .before .before .before .before .before .before in
     let v = copy-place m in
     let s = start-place v in
     let p = s .pre .1 in
     c .before .before .put-held .ensures b u
-    (codomain-held (s .pre .0) (p .2) (v .copy .ensures) (p .3) (m .note .ensures) b h l)
-    (argument-held (s .pre .0) (p .2) (v .copy .ensures) (p .3) (m .note .ensures) u k)
+    (codomain-held (s .pre .0) (p .2) (v .copy .ensures) (p .3) (m .note .ensures) b h l) hb
+    (argument-held (s .pre .0) (p .2) (v .copy .ensures) (p .3) (m .note .ensures) u k) hu
 
 pub put-in-spec : {M : Type 1} → statement M
 put-in-spec =

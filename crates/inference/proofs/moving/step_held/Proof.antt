@@ -6,6 +6,7 @@ use Rattle.calculus.specs.Step as calculus
 use Rattle.inference.proofs.Lent.{moves}
 use Rattle.inference.proofs.moving.step_held.Statement.{statement}
 use Rattle.inference.proofs.moving.step_held.Tie as tie
+use Rattle.reduction.specs.Stepping.{next-of}
 
 returns : tie.Need-returns
 returns c =
@@ -13,8 +14,8 @@ returns c =
     let s = c .before .before .step in
     let n = 2 * (a .top + a .limit) - 2 * a .top in
     let part = s .last .1 .1 .0 in
-    λ b h.
-    moves (calculus.step b) (a .work .now) (a .top) (a .limit) n (s .result) part (omega arith) (omega arith) (s .ensures b h)
+    λ b h has.
+    moves (next-of b) (a .work .now) (a .top) (a .limit) n (s .result) part (omega arith) (omega arith) (s .ensures b h has)
 
 pub step-held-spec : {M : Type 1} → statement M
 step-held-spec =

@@ -55,7 +55,8 @@ step-held-requires c κs =
     (p .0, p .1, noted-within (p .2) (cut v (p .2 .term) (p .2 .coded)))
 
 returns : tie.Need-returns
-returns c = λ b h. c .before .before .step-held .ensures b (cut (c .before .before .before .before .before .before .before) b h)
+returns c = λ b h has.
+    c .before .before .step-held .ensures b (cut (c .before .before .before .before .before .before .before) b h) has
 
 pub step-into-spec : {M : Type 1} → statement M
 step-into-spec =

@@ -53,7 +53,8 @@ step-held-requires c κs =
     (p .0, p .1, subst (λ x. HeldWithin x (s .args .closed)) (H .coded ∙ sym (cut v (H .term) (H .coded))) H)
 
 returns : tie.Need-returns
-returns c = λ b h. c .before .before .step-held .ensures b (cut (c .before .before .before .before .before .before .before) b h)
+returns c = λ b h has.
+    c .before .before .step-held .ensures b (cut (c .before .before .before .before .before .before .before) b h) has
 
 pub step-type-spec : {M : Type 1} → statement M
 step-type-spec =

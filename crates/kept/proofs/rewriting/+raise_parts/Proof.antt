@@ -11,13 +11,13 @@ use borrow.Fn.PlainCycle.{Measures, is, falls, and}
 use lib.ListN.{length, length-take}
 use lib.Seq.{sets, length-sets}
 use Rattle.calculus.specs.Term.{Term, raise, size}
-use Rattle.calculus.specs.Words.{longest}
+use Rattle.calculus.specs.Words.{Worded, longest}
 use Rattle.calculus.proofs.Coding.{size-positive}
 use Rattle.term.specs.Kept.{Lies, kept}
 use Rattle.term.proofs.Keeping.{lies-within, lies-one}
 use Rattle.term.proofs.Words.{shape-two}
 use Rattle.kept.specs.Rewriting.{Subject, Surveyed}
-use Rattle.kept.proofs.InPlace.{Parted, Second, parted, clear-raised}
+use Rattle.kept.proofs.InPlace.{Parted, Second, parted, clear-raised, subject-worded}
 use Rattle.kept.proofs.keeping.length_at.Reads as length-at-reads
 use Rattle.kept.proofs.rewriting.raise_leaf.Reads as raise-leaf-reads
 use Rattle.kept.proofs.rewriting.raise_parts.Reads as reads
@@ -64,22 +64,26 @@ module _ (t : ℕ) where
     -- The term there is one.
     same : (e : Term)
         → Lies e (c .args .slice .now) (c .args .node)
+        → Worded e
         → let a = c .args in
         sets (a .slice .now) (2 * a .node) (kept (raise (a .by) (a .depth) (c .pre .1 .0 .0)))
         ≡ sets (a .slice .now) (2 * a .node) (kept (raise (a .by) (a .depth) e))
-    same e l =
+    same e l has =
         let a = c .args in
-        ap (λ x. sets (a .slice .now) (2 * a .node) (kept (raise (a .by) (a .depth) x))) (lies-one (c .pre .1 .0 .1 .lies) l)
+        let subject = c .pre .1 .0 .1 in
+        let is = lies-one (subject-worded subject) has (subject .lies) l in
+        ap (λ x. sets (a .slice .now) (2 * a .node) (kept (raise (a .by) (a .depth) x))) is
 
     -- What is raised has the length that it had.
     as-long : {after : List ℕ}
         → ((e : Term)
         → Lies e (c .args .slice .now) (c .args .node)
+        → Worded e
         → after ≡ sets (c .args .slice .now) (2 * c .args .node) (kept (raise (c .args .by) (c .args .depth) e)))
         → length after ≡ length (c .args .slice .now)
     as-long h =
         let e = c .pre .1 .0 .0 in
-        ap length (h e (c .pre .1 .0 .1 .lies))
+        ap length (h e (c .pre .1 .0 .1 .lies) (subject-worded (c .pre .1 .0 .1)))
         ∙ length-sets (c .args .slice .now) (2 * c .args .node) (kept (raise (c .args .by) (c .args .depth) e))
 
     low : c .args .node + 1 + size (node .part) ≤ longest
@@ -156,9 +160,9 @@ module _ (t : ℕ) where
         let p = node start in
         let l = long (c .before) in
         ⊎-elim {C = First}
-        (λ w. w .5 ∙ w .2 .ensures (p .part) (p .subject .lies) (sym l ∙ w .0 .taken))
+        (λ w. w .5 ∙ w .2 .ensures (p .part) (p .subject .lies) (subject-worded (p .subject)) (sym l ∙ w .0 .taken))
         (⊎-elim {C = First}
-        (λ w. w .8 ∙ w .5 .ensures (p .part) (p .subject .lies))
+        (λ w. w .8 ∙ w .5 .ensures (p .part) (p .subject .lies) (subject-worded (p .subject)))
         (λ w.
         w .4
         ∙ clear-raised
@@ -215,14 +219,15 @@ module _ (t : ℕ) where
         after ≡ sets (c .before .if1 .slice) (2 * back) (kept (raise (a .by) inner (second .part)))
         → (e : Term)
         → Lies e (a .slice .now) (a .node)
+        → Worded e
         → after ≡ sets (a .slice .now) (2 * a .node) (kept (raise (a .by) (a .depth) e))
-    both h e l =
+    both h e l has =
         let start = c .before .before .before .before .before .before .before in
         let a = start .args in
         h
         ∙ ap (λ s. sets s (2 * back) (kept (raise (a .by) inner (second .part)))) (first (c .before))
         ∙ second .whole
-        ∙ same start e l
+        ∙ same start e l has
 
   add-inner : lts.Need-add-inner (claims t) (given t) reads.Post
   add-inner c = let h = subject (c .before) .near in search needs
@@ -277,13 +282,13 @@ module _ (t : ℕ) where
       let at = call .before .before .before in
       let two = at .before .before .before in
       let one = sym (long-2 at) ∙ call .before .before .if4 .taken in
-      both two (call .raise-leaf2 .ensures (second two .part) (subject two .lies) one)
+      both two (call .raise-leaf2 .ensures (second two .part) (subject two .lies) (subject-worded (subject two)) one)
 
   returns-2 : lts.Need-returns-2 (claims t) (given t) reads.Post
   returns-2 c =
       let call = c .before .before in
       let two = call .before .before .before .before .before .before .before .before .before in
-      both two (call .raise-parts2 .ensures (second two .part) (subject two .lies))
+      both two (call .raise-parts2 .ensures (second two .part) (subject two .lies) (subject-worded (subject two)))
 
   returns-3 : lts.Need-returns-3 (claims t) (given t) reads.Post
   returns-3 c =
@@ -301,13 +306,13 @@ module _ (t : ℕ) where
 
   -- A node with one part is raised where that is.
   returns-4 : lts.Need-returns-4 (claims t) (given t) reads.Post
-  returns-4 c e l =
+  returns-4 c e l has =
       let start = c .before .before .before .before .before .before .before in
       let shape = c .before .before .before .before .shape-of in
       let few = length-take (shape .result .parts) (0 ∷ shape .result .bound ∷ []) in
       first (c .before)
       ∙ node start .alone (omega (arith, few, ap length (shape .ensures), c .if3 .left))
-      ∙ same start e l
+      ∙ same start e l has
 
   same-length : lts.Need-same-length (claims t) (given t) reads.Post
   same-length c =

@@ -11,7 +11,7 @@ use borrow.Fn.Kinds.{In}
 use borrow.Fn.PlainCycle.{Measures, is, falls, and}
 use lib.ListN.{length, length-set, length-take}
 use Rattle.calculus.specs.Term.{Term, substitute, size}
-use Rattle.calculus.specs.Words.{longest}
+use Rattle.calculus.specs.Words.{Worded, longest}
 use Rattle.calculus.specs.Meaning.{a-variable, meaning}
 use Rattle.calculus.proofs.Coding.{size-positive}
 use Rattle.term.specs.Kept.{Lies, kept, word-at}
@@ -22,8 +22,9 @@ use Rattle.term.proofs.Words.{shape-none, shape-two}
 use Rattle.kept.specs.Writing.{Puts}
 use Rattle.kept.proofs.Composed.{Composes, put-length, put-place, puts-as, puts-node, puts-short, puts-then}
 use Rattle.kept.proofs.Composed.{puts-where, spelled-length}
-use Rattle.kept.proofs.Putting.{FirstPart, SecondPart, first-part, is-variable, kept-leaf, no-parts-leaf}
-use Rattle.kept.proofs.Putting.{shape-some, subject-index, subject-other}
+use Rattle.kept.proofs.InPlace.{fits-worded, subject-worded}
+use Rattle.kept.proofs.Putting.{FirstPart, SecondPart, first-part, index-small, is-variable, kept-leaf}
+use Rattle.kept.proofs.Putting.{no-parts-leaf, other-word, shape-some}
 use Rattle.kept.proofs.keeping.length_at.Reads as length-at-reads
 use Rattle.kept.proofs.keeping.narrow.Reads as narrow-reads
 use Rattle.kept.proofs.rewriting.put.Reads as put-reads
@@ -106,9 +107,12 @@ module _ (t : ℕ) where
         → Put (kept (substitute (s .args .depth) u subterm)) r after
         → (e : Term)
         → Lies e (s .args .source .now) (s .args .node)
+        → Worded e
         → Put (kept (substitute (s .args .depth) u e)) r after
-    of-one {r} {after} u p e l =
-        subst (λ x. Put (kept (substitute (s .args .depth) u x)) r after) (lies-one (s .pre .1 .2 .1 .lies) l) p
+    of-one {r} {after} u p e l has =
+        let subject = s .pre .1 .2 .1 in
+        let is = lies-one (subject-worded subject) has (subject .lies) l in
+        subst (λ x. Put (kept (substitute (s .args .depth) u x)) r after) is p
 
   mul-word : lts.Need-mul-word (claims t) (given t) reads.Post
   mul-word c = let h = low (c .before .before .before) in search needs
@@ -132,38 +136,37 @@ module _ (t : ℕ) where
       let s = found .before .before .before .before .before .before .before in
       let (e, subject, surveyed) = s .pre .1 .2 in (
         s .pre .1 .0,
-        subject-index subject (found .index .given .0 .0) (means found),
+        index-small (word s) (found .index .given .0 .0) (means found),
         omega (arith, subject .near),
         s .pre .1 .3,
       )
 
   returns : lts.Need-returns (claims t) (given t) reads.Post
-  returns c e u l coded =
+  returns c e u l has coded has′ =
       let call = c .before .before in
       let found = call .before .before .before in
       let s = found .before .before .before .before .before .before .before in
       let same = is-variable (view e) l (found .index .given .0 .0) (means found) in
-      puts-as (call .put-variable .ensures u coded) (ap (λ x. kept (substitute (s .args .depth) u x)) (sym same))
+      puts-as (call .put-variable .ensures u coded has′) (ap (λ x. kept (substitute (s .args .depth) u x)) (sym same))
 
-  -- A node that is no variable, and has no parts.
+  -- A node that is no variable, and has no parts: a star or a name.
   returns-2 : lts.Need-returns-2 (claims t) (given t) reads.Post
-  returns-2 c e u l coded =
+  returns-2 c e u l has coded has′ =
       let shape = c .before in
       let call = shape .before .before .before in
       let other = call .before .before in
       let s = start-of call in
-      let (e₀, subject, surveyed) = s .pre .1 .2 in
       let word-is = other .before .classify in
-      let small = subject-other subject (word-is .result) (word-is .ensures) (other .match .keys2) in
+      let named = other-word (word s) (word-is .result) (word-is .ensures) (other .match .keys2) in
       let none = sym (shape .shape-of .ensures) ∙ shape-none (shape .shape-of .result) (c .if1 .taken) in
-      let same = kept-leaf (view e) (s .args .depth) u l (no-parts-leaf (view e) l none) (omega (arith, small)) in
+      let same = kept-leaf (view e) (s .args .depth) u l has (no-parts-leaf (view e) l none) (λ free. named (omega (arith, free))) in
       puts-as (call .put .ensures) (sym same)
 
   mul-if2 : lts.Need-mul-if2 (claims t) (given t) reads.Post
   mul-if2 c = record { fits = omega (arith, put-of c .put .ensures .near) }
 
   returns-3 : lts.Need-returns-3 (claims t) (given t) reads.Post
-  returns-3 c e u l coded =
+  returns-3 c e u l has coded has′ =
       let call = put-of (c .before) in
       let x = substitute (start-of call .args .depth) u e in
       puts-short (call .put .ensures) (c .if2 .taken) (omega (arith, kept-length x, size-positive x))
@@ -214,8 +217,9 @@ module _ (t : ℕ) where
     first-put : (u : Term)
         → let s = start-of (put-of (node-of c)) in
         s .args .argument .now ≡ kept u
+        → Worded u
         → Put s (word s ∷ 1 ∷ for-first (node-of c) u) (c .if3 .middle) (c .if3 .out)
-    first-put u coded =
+    first-put u coded has′ =
         let same = c .before .before .before in
         let p = front (node-of c) in
         puts-then
@@ -223,9 +227,11 @@ module _ (t : ℕ) where
         (same .before .before .if2 .left)
         (⊎-elim
         (λ w.
-        let called = w .2 .ensures (p .part) u (p .subject .lies) coded in
+        let called = w .2 .ensures (p .part) u (p .subject .lies) (subject-worded (p .subject)) coded has′ in
         puts-where called (same .put-same .ensures .0 (w .0 .taken)) (w .6) (w .5))
-        (λ w. puts-where (same .put-same .ensures .1 (w .0 .left) (p .part) u (p .subject .lies)) refl (w .2) (w .1))
+        (λ w.
+        let stays = same .put-same .ensures .1 (w .0 .left) (p .part) u (p .subject .lies) (subject-worded (p .subject)) in
+        puts-where stays refl (w .2) (w .1))
         (c .if3 .came))
 
     -- There is an argument.
@@ -234,7 +240,7 @@ module _ (t : ℕ) where
         Put s (word s ∷ 1 ∷ for-first (node-of c) (s .pre .1 .3 .0)) (c .if3 .middle) (c .if3 .out)
     first-some =
         let (u, put-in) = start-of (put-of (node-of c)) .pre .1 .3 in
-        first-put u (put-in .coded)
+        first-put u (put-in .coded) (fits-worded (put-in .fits))
 
   mul-if4 : lts.Need-mul-if4 (claims t) (given t) reads.Post
   mul-if4 c =
@@ -245,10 +251,16 @@ module _ (t : ℕ) where
   same-length-4 c = put-length (first-some (c .before .before))
 
   returns-4 : lts.Need-returns-4 (claims t) (given t) reads.Post
-  returns-4 c e u l coded =
+  returns-4 c e u l has coded has′ =
       let j = c .before .before in
       let longer = front (node-of j) .longer u in
-      of-one (start-of (put-of (node-of j))) u (puts-short (first-put j u coded) (c .if4 .taken) (omega (arith, longer))) e l
+      of-one
+      (start-of (put-of (node-of j)))
+      u
+      (puts-short (first-put j u coded has′) (c .if4 .taken) (omega (arith, longer)))
+      e
+      l
+      has
 
   -- The second part.
   length-at-requires : lts.Need-length-at-requires (claims t) (given t) reads.Post
@@ -323,18 +335,21 @@ module _ (t : ℕ) where
         → let n = node-of (first-of found-at) in
         let s = start-of (put-of n) in
         s .args .argument .now ≡ kept u
+        → Worded u
         → Put s (word s ∷ 1 ∷ (for-first n u ++ for-second found-at u)) (c .if6 .end) (c .if6 .out)
-    second-put u coded =
+    second-put u coded has′ =
         let same = c .before .before .before in
         let q = back found-at in
         puts-then
-        (first-put (first-of found-at) u coded)
+        (first-put (first-of found-at) u coded has′)
         (found-at .before .before .if4 .left)
         (⊎-elim
         (λ w.
-        let called = w .2 .ensures (q .part) u (q .subject .lies) coded in
+        let called = w .2 .ensures (q .part) u (q .subject .lies) (subject-worded (q .subject)) coded has′ in
         puts-where called (same .put-same2 .ensures .0 (w .0 .taken)) (w .6) (w .5))
-        (λ w. puts-where (same .put-same2 .ensures .1 (w .0 .left) (q .part) u (q .subject .lies)) refl (w .2) (w .1))
+        (λ w.
+        let stays = same .put-same2 .ensures .1 (w .0 .left) (q .part) u (q .subject .lies) (subject-worded (q .subject)) in
+        puts-where stays refl (w .2) (w .1))
         (c .if6 .came))
 
     second-some :
@@ -344,7 +359,7 @@ module _ (t : ℕ) where
         Put s (word s ∷ 1 ∷ (for-first n u ++ for-second found-at u)) (c .if6 .end) (c .if6 .out)
     second-some =
         let (u, put-in) = start-of (put-of (node-of (first-of found-at))) .pre .1 .3 in
-        second-put u (put-in .coded)
+        second-put u (put-in .coded) (fits-worded (put-in .fits))
 
   mul-if7 : lts.Need-mul-if7 (claims t) (given t) reads.Post
   mul-if7 c =
@@ -355,16 +370,17 @@ module _ (t : ℕ) where
   same-length-5 c = put-length (second-some (c .before .before))
 
   returns-5 : lts.Need-returns-5 (claims t) (given t) reads.Post
-  returns-5 c e u l coded =
+  returns-5 c e u l has coded has′ =
       let j = c .before .before in
       let at = found-at j in
       let whole = spelled-length (back at .spelled u) in
       of-one
       (start-of (put-of (node-of (first-of at))))
       u
-      (puts-short (second-put j u coded) (c .if7 .taken) (omega (arith, whole)))
+      (puts-short (second-put j u coded has′) (c .if7 .taken) (omega (arith, whole)))
       e
       l
+      has
 
   -- All but the length of the node, by the number of the parts.
   module _ (c : lts.Joined5 (claims t) (given t) reads.Post) where
@@ -377,6 +393,7 @@ module _ (t : ℕ) where
     composed : (u : Term)
         → let s = start-here in
         s .args .argument .now ≡ kept u
+        → Worded u
         → Composes
         (substitute (s .args .depth) u (subterm s))
         (word s)
@@ -384,7 +401,7 @@ module _ (t : ℕ) where
         (s .args .at)
         (c .if5 .end)
         (c .if5 .out)
-    composed u coded =
+    composed u coded has′ =
         let first = c .before .before .before in
         ⊎-elim
         (λ w.
@@ -409,7 +426,7 @@ module _ (t : ℕ) where
         record {
           parts = for-first node-here u ++ for-second at u;
           spelled = back at .spelled u;
-          puts = puts-where (second-put joined u coded) refl (w .11) (w .10);
+          puts = puts-where (second-put joined u coded has′) refl (w .11) (w .10);
           room = rw (w .11, w .10) (w .9 .left);
         })
         (λ w.
@@ -418,7 +435,7 @@ module _ (t : ℕ) where
         record {
           parts = for-first node-here u;
           spelled = front node-here .alone (omega (arith, few, ap length (shape .ensures), w .0 .left)) u;
-          puts = puts-where (first-put first u coded) refl (w .2) (w .1);
+          puts = puts-where (first-put first u coded has′) refl (w .2) (w .1);
           room = rw (w .2, w .1) (c .before .if4 .left);
         })
         (c .if5 .came)
@@ -429,7 +446,7 @@ module _ (t : ℕ) where
         × (length (c .if5 .out) ≡ length (start-here .args .out .now))
     written =
         let (u, put-in) = start-here .pre .1 .3 in
-        let x = composed u (put-in .coded) in
+        let x = composed u (put-in .coded) (fits-worded (put-in .fits)) in
         (omega (arith, put-place (x .puts) (x .room) .0), x .room, put-length (x .puts))
 
     -- So its second word is within the slice.
@@ -470,9 +487,9 @@ module _ (t : ℕ) where
       length-set (j .if5 .out) (2 * start-here j .args .at + 1) (c .narrow .result) ∙ written j .2
 
   returns-6 : lts.Need-returns-6 (claims t) (given t) reads.Post
-  returns-6 c e u l coded =
+  returns-6 c e u l has coded has′ =
       let j = c .before .before in
-      of-one (start-here j) u (rw (c .narrow .ensures) (puts-node (composed j u coded))) e l
+      of-one (start-here j) u (rw (c .narrow .ensures) (puts-node (composed j u coded has′))) e l has
 
   pub closed : {M : Type 1} → lts.Closed (claims t) (given t) reads.Post M
   closed =

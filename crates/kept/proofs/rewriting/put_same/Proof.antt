@@ -1,5 +1,5 @@
--- `put_same` meets its contract: a leaf below the free variables and a part without variables are what substitution makes of
--- them, and words that are put move the place.
+-- `put_same` meets its contract: a leaf below the free variables and a part without variables and names are what substitution
+-- makes of them, and words that are put move the place.
 use Prim.Native.Nat.{_+_, _*_, _≤_}
 use mathlib.Core.Path.{_≡_, refl, sym, ap, subst, _∙_}
 use borrow.Author.Needs.{needs}
@@ -13,6 +13,7 @@ use Rattle.term.proofs.Keeping.{kept-length, lies-one, lies-within}
 use Rattle.kept.specs.Rewriting.{Surveyed}
 use Rattle.kept.proofs.Clear.{substitute-clear, surveyed-clear}
 use Rattle.kept.proofs.Composed.{puts-as, puts-moves}
+use Rattle.kept.proofs.InPlace.{subject-worded}
 use Rattle.kept.proofs.Putting.{kept-leaf, part-taken}
 use Rattle.kept.proofs.rewriting.put_same.Statement.{statement}
 use Rattle.kept.proofs.rewriting.put_same.Tie as tie
@@ -34,9 +35,10 @@ returns c =
     let start = one .before .before .before .before in
     let p = c .before .before .put .ensures in (
       λ same. absurd (puts-moves p (start .pre .0) (omega arith) same),
-      λ moved e u l.
+      λ moved e u l has.
           let single : size e ≡ 1 = sym (one .before .length-at .ensures .1 e l) ∙ one .if1 .taken in
-          puts-as p (sym (kept-leaf (view e) (start .args .depth) u l single (leaf .if2 .taken))),
+          let same = kept-leaf (view e) (start .args .depth) u l has single (λ free. omega (arith, free, leaf .if2 .taken)) in
+          puts-as p (sym same),
     )
 
 returns-2 : tie.Need-returns-2
@@ -86,8 +88,8 @@ returns-3 c =
     let long = call .length-at .ensures .1 in
     let p = puts-as (c .before .before .copy-nodes .ensures) (part-taken (subject .lies) (long e₀ (subject .lies))) in (
       λ same. absurd (puts-moves p (start .pre .0) (omega (arith, kept-length e₀, size-positive e₀)) same),
-      λ moved e u l.
-          let is : e₀ ≡ e = lies-one (subject .lies) l in
+      λ moved e u l has.
+          let is : e₀ ≡ e = lies-one (subject-worded subject) has (subject .lies) l in
           let none = surveyed-clear l (subst (λ t. Surveyed t (a .source .now) (a .node) (a .first .now)) is surveyed)
           (omega (arith, long e l, clear .if3 .taken, clear .before .wide .ensures)) in
           puts-as p (ap kept (is ∙ sym (substitute-clear (a .depth) u none))),

@@ -10,19 +10,20 @@ use Rattle.calculus.specs.Words.{Scoped}
 use Rattle.term.specs.Kept.{kept}
 use Rattle.term.proofs.Keeping.{kept-injective, kept-length}
 use Rattle.kept.proofs.Composed.{put-place, put-taken, puts-as, puts-replaced, puts-short}
+use Rattle.kept.proofs.InPlace.{fits-worded}
 use Rattle.kept.proofs.Putting.{kept-above, kept-below, kept-raised-length}
 use Rattle.kept.proofs.Putting.{substitute-closed, substitute-here, substitute-outermost}
 use Rattle.kept.proofs.rewriting.put_variable.Statement.{statement}
 use Rattle.kept.proofs.rewriting.put_variable.Tie as tie
 
 returns : tie.Need-returns
-returns c u coded =
+returns c u coded has =
     let bound = c .before .before .before .before in
     let a = bound .before .before .before .args in
     puts-as (c .before .before .put .ensures) (sym (kept-below (a .depth) u (a .index) (bound .if1 .taken)))
 
 returns-2 : tie.Need-returns-2
-returns-2 c u coded =
+returns-2 c u coded has =
     let above = c .before .before .before .before in
     let a = above .before .before .before .before .args in
     puts-as (c .before .before .put2 .ensures) (sym (kept-above (a .depth) u (a .index) (above .if2 .taken)))
@@ -34,19 +35,19 @@ copy-nodes-requires c κs =
     (start .pre .0, (size u, ap length (put-in .coded) ∙ kept-length u))
 
 returns-3 : tie.Need-returns-3
-returns-3 c u coded =
+returns-3 c u coded has =
     let call = c .before .before .before in
     let here = call .before .before in
     let start = here .before .before .before .before in
     let a = start .args in
     let (v, put-in) = start .pre .3 in
-    let one = kept-injective v u (sym (put-in .coded) ∙ coded) in
+    let one = kept-injective v u (fits-worded (put-in .fits)) has (sym (put-in .coded) ∙ coded) in
     let closed : Scoped 0 u = subst (Scoped 0) one (put-in .shut (c .if3 .taken)) in
     let same = substitute-closed (a .depth) u (a .index) (omega (arith, here .if2 .left, here .before .if1 .left)) closed in
     puts-as (call .copy-nodes .ensures) (coded ∙ ap kept (sym same))
 
 returns-4 : tie.Need-returns-4
-returns-4 c u coded =
+returns-4 c u coded has =
     let call = c .before .before .before .before in
     let here = call .before .before in
     let a = here .before .before .before .before .args in
@@ -75,19 +76,19 @@ raise-requires c κs =
     ((u, put-taken (call .copy-nodes .ensures) (c .before .if5 .taken) ∙ put-in .coded, put-in .fits), start .pre .2)
 
 returns-5 : tie.Need-returns-5
-returns-5 c u coded =
+returns-5 c u coded has =
     let fits = c .before .before .before .before in
     let call = fits .before .before .before .before .before in
     let here = call .before .before in
     let a = here .before .before .before .before .args in
     let put-in = put-taken (call .copy-nodes .ensures) (fits .if5 .taken) ∙ coded in
-    let raised = c .before .before .raise .ensures u put-in in
+    let raised = c .before .before .raise .ensures u put-in has in
     let same = substitute-here (a .depth) u (a .index) (omega (arith, here .if2 .left, here .before .if1 .left)) in
     let long = ap length raised ∙ kept-raised-length (a .depth) 0 u ∙ ap length (sym coded) in
     puts-as (puts-replaced (call .copy-nodes .ensures) (fits .if5 .taken) long) (raised ∙ ap kept (sym same))
 
 returns-6 : tie.Need-returns-6
-returns-6 c u coded =
+returns-6 c u coded has =
     let call = c .before .before .before .before .before in
     let here = call .before .before in
     let a = here .before .before .before .before .args in

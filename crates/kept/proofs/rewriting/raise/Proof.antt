@@ -31,11 +31,11 @@ raise-long-requires c κs =
     ((e, coded, fits, long, omega (arith, long, c .before .if1 .left, size-positive e)), start .pre .1)
 
 returns : tie.Need-returns
-returns c e h =
+returns c e h has =
     let call = c .before .before in
     let at = call .before .before .before in
     let one = sym (at .length-at .ensures .1 e (lies-whole h)) ∙ call .before .before .if1 .taken in
-    call .raise-leaf .ensures e (lies-whole h) one ∙ raised-whole e h (at .before .before .before .args .by) 0
+    call .raise-leaf .ensures e (lies-whole h) has one ∙ raised-whole e h (at .before .before .before .args .by) 0
 
 pub raise-spec : {M : Type 1} → statement M
 raise-spec =

@@ -1,10 +1,11 @@
--- `raise_leaf` meets its contract: a variable that is free has its index raised, a bound one and a star are the same raised.
+-- `raise_leaf` meets its contract: a variable that is free has its index raised, a bound one, a star and a name are the same
+-- raised.
 use Prim.Native.Nat.{_*_, _<_}
 use native.Mathlib.Omega.{arith}
 use borrow.Author.Needs.{needs}
 use lib.ListN.{length}
 use Rattle.term.proofs.Keeping.{lies-within}
-use Rattle.kept.proofs.InPlace.{word-small, free-raised, bound-raised}
+use Rattle.kept.proofs.InPlace.{free-raised, bound-raised, name-raised}
 use Rattle.kept.proofs.rewriting.raise_leaf.Statement.{statement}
 use Rattle.kept.proofs.rewriting.raise_leaf.Tie as tie
 use Rattle.kept.proofs.rewriting.raise_leaf.Reads as reads
@@ -25,30 +26,34 @@ slice-read-word c = inside (c .before)
 
 add-slice : tie.Need-add-slice
 add-slice c =
-    let start = c .before .before in
-    let h = word-small (start .pre .0 .1) (start .pre .0 .2) in
-    let near = start .pre .0 .1 .near in
-    let by = start .pre .1 in
+    let by = c .before .before .before .pre .1 in
     search needs
 
 mul-slice : tie.Need-mul-slice
-mul-slice c = let h = inside (c .before .before) in search needs
+mul-slice c = let h = inside (c .before .before .before) in search needs
 
 mul-slice-2 : tie.Need-mul-slice-2
-mul-slice-2 c = let h = inside (c .before .before) in search needs
+mul-slice-2 c = let h = inside (c .before .before .before) in search needs
 
 slice-write-slice : tie.Need-slice-write-slice
-slice-write-slice c = inside (c .before .before)
+slice-write-slice c = inside (c .before .before .before)
 
 returns : tie.Need-returns
-returns c e l one = free-raised (c .before .before .args .by) (c .before .before .args .depth) l one (c .if1 .taken)
+returns c e l has one =
+    let a = c .before .before .before .args in
+    free-raised (a .by) (a .depth) l one (c .before .if1 .taken) (c .if2 .taken)
 
 returns-2 : tie.Need-returns-2
-returns-2 c e l one = bound-raised (c .before .before .args .by) (c .before .before .args .depth) l one (c .if1 .left)
+returns-2 c e l has one =
+    let a = c .before .before .before .args in
+    name-raised (a .by) (a .depth) l has one (c .if2 .left)
+
+returns-3 : tie.Need-returns-3
+returns-3 c e l has one = bound-raised (c .before .before .args .by) (c .before .before .args .depth) l one (c .if1 .left)
 
 pub raise-leaf-spec : {M : Type 1} → statement M
 raise-leaf-spec =
     tie.close
     (tie.spec
     mul-word mul-word-2 slice-read-word (λ c. search needs) add-slice mul-slice mul-slice-2 slice-write-slice
-    (λ c. search needs) returns returns-2)
+    (λ c. search needs) returns returns-2 returns-3)

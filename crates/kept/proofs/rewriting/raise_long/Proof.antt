@@ -6,7 +6,7 @@ use lib.ListN.{length}
 use Rattle.calculus.specs.Term.{raise}
 use Rattle.term.specs.Kept.{kept}
 use Rattle.term.proofs.Keeping.{kept-length, kept-injective, lies-whole}
-use Rattle.kept.proofs.InPlace.{subject-whole, surveyed-whole, raised-whole, clear-raised}
+use Rattle.kept.proofs.InPlace.{fits-worded, subject-whole, surveyed-whole, raised-whole, clear-raised}
 use Rattle.kept.proofs.rewriting.raise_long.Statement.{statement}
 use Rattle.kept.proofs.rewriting.raise_long.Tie as tie
 
@@ -23,13 +23,13 @@ raise-parts-requires c κs =
     ((e, subject-whole coded fits, surveyed-whole coded count fits (found .find-variables .ensures), long), start .pre .1)
 
 returns : tie.Need-returns
-returns c e h =
+returns c e h has =
     let call = c .before .before in
     let start = call .before .before .before .before .before .before .before .before .before in
-    call .raise-parts .ensures e (lies-whole h) ∙ raised-whole e h (start .args .by) 0
+    call .raise-parts .ensures e (lies-whole h) has ∙ raised-whole e h (start .args .by) 0
 
 returns-2 : tie.Need-returns-2
-returns-2 c e h =
+returns-2 c e h has =
     let found = c .before .before in
     let start = found .before .before .before .before in
     let (e₀, coded, fits, count, long) = start .pre .0 in
@@ -41,7 +41,7 @@ returns-2 c e h =
     (surveyed-whole coded count fits (found .find-variables .ensures))
     (omega (arith, c .if1 .left, c .before .wide .ensures, count))
     ∙ raised-whole e₀ coded by 0
-    ∙ ap (λ x. kept (raise by 0 x)) (kept-injective e₀ e (sym coded ∙ h))
+    ∙ ap (λ x. kept (raise by 0 x)) (kept-injective e₀ e (fits-worded fits) has (sym coded ∙ h))
 
 pub raise-long-spec : {M : Type 1} → statement M
 raise-long-spec =

@@ -1,16 +1,17 @@
--- `substitute` meets its contract: a term of one node is a variable, which is put by what stands for it, or a star, which stays.
+-- `substitute` meets its contract: a term of one node is a variable, which is put by what stands for it, or a star or a name,
+-- which stay.
 use Prim.Native.Nat.{_<_}
 use mathlib.Core.Path.{_≡_, sym, ap, _∙_}
 use borrow.Author.Needs.{needs}
 use native.Mathlib.Omega.{arith}
 use Rattle.calculus.specs.Term.{size, substitute}
 use Rattle.calculus.proofs.Coding.{size-positive}
-use Rattle.term.specs.Kept.{kept}
+use Rattle.term.specs.Kept.{kept, word-at}
 use Rattle.term.specs.Word.{meaning-of}
 use Rattle.term.proofs.Nodes.{view}
 use Rattle.term.proofs.Keeping.{lies-within}
 use Rattle.kept.proofs.Composed.{puts-as}
-use Rattle.kept.proofs.Putting.{is-variable, kept-leaf, subject-index, subject-other}
+use Rattle.kept.proofs.Putting.{index-small, is-variable, kept-leaf, other-word}
 use Rattle.kept.proofs.rewriting.substitute.Statement.{statement}
 use Rattle.kept.proofs.rewriting.substitute.Tie as tie
 
@@ -28,31 +29,30 @@ put-variable-requires : tie.Need-put-variable-requires
 put-variable-requires c κs =
     let found = c .before .before in
     let s = found .before .before .before .before .before .before .before .before .before in
-    let (e, subject, short) = s .pre .2 in
     let i = found .index .given in
     let means = ap meaning-of (sym (i .1)) ∙ found .before .before .classify .ensures in
-    (s .pre .0, subject-index subject (i .0 .0) means, omega arith, s .pre .3)
+    (s .pre .0, index-small (word-at (s .args .source .now) (s .args .body)) (i .0 .0) means, omega arith, s .pre .3)
 
 returns : tie.Need-returns
-returns c e u l coded =
+returns c e u l has coded has′ =
     let call = c .before .before in
     let found = call .before .before .before in
     let i = found .index .given in
     let means = ap meaning-of (sym (i .1)) ∙ found .before .before .classify .ensures in
     let same = is-variable (view e) l (i .0 .0) means in
-    puts-as (call .put-variable .ensures u coded) (ap (λ x. kept (substitute 0 u x)) (sym same))
+    puts-as (call .put-variable .ensures u coded has′) (ap (λ x. kept (substitute 0 u x)) (sym same))
 
 returns-2 : tie.Need-returns-2
-returns-2 c e u l coded =
+returns-2 c e u l has coded has′ =
     let call = c .before .before in
     let other = call .before .before in
     let one = other .before .before .before in
     let s = one .before .before .before .before .before in
-    let (e₀, subject, short) = s .pre .2 in
     let single : size e ≡ 1 = sym (one .before .length-at .ensures .1 e l) ∙ one .if1 .taken in
     let word-is = other .before .classify in
-    let small = subject-other subject (word-is .result) (word-is .ensures) (other .match .keys2) in
-    puts-as (call .put .ensures) (sym (kept-leaf (view e) 0 u l single (omega (arith, small))))
+    let word = word-at (s .args .source .now) (s .args .body) in
+    let named = other-word word (word-is .result) (word-is .ensures) (other .match .keys2) in
+    puts-as (call .put .ensures) (sym (kept-leaf (view e) 0 u l has single (λ free. named (omega (arith, free)))))
 
 substitute-long-requires : tie.Need-substitute-long-requires
 substitute-long-requires c κs =

@@ -6,14 +6,14 @@ use native.Mathlib.Omega.{arith}
 use borrow.Author.Needs.{needs}
 use lib.ListN.{length}
 use Rattle.calculus.specs.Term.{Term, app, lam, size, substitute}
-use Rattle.calculus.specs.Words.{Scoped}
+use Rattle.calculus.specs.Words.{Scoped, Worded}
 use Rattle.calculus.specs.Step.{applied, step, under}
 use Rattle.term.specs.Kept.{Lies, kept}
 use Rattle.term.proofs.Keeping.{lies-within}
 use Rattle.reduction.specs.declared.stepping.Kind.the-variants.{Substitution}
 use Rattle.kept.specs.Writing.{Puts}
 use Rattle.reduction.proofs.Placing as place
-use Rattle.reduction.proofs.Placing.{Placed, beta-placed, lies-node, lies-part, no-room, placed-lies, reaches}
+use Rattle.reduction.proofs.Placing.{Placed, beta-placed, lies-node, lies-part, no-room, placed-lies, placed-worded, reaches}
 use Rattle.reduction.proofs.Replacing.{argument-fits, body-fits}
 use Rattle.reduction.proofs.stepping.beta.Statement.{statement}
 use Rattle.reduction.proofs.stepping.beta.Tie as tie
@@ -92,9 +92,11 @@ written : (c : tie.After-substitute)
     → let s = c .before .before .before .before .before .before .before .before .before in
     let x = substitute 0 (redex s .2) (redex s .1) in
     Puts (kept x) (s .args .out .now) (s .args .at) (c .substitute .result) (c .substitute .last .1 .1 .1 .1 .0)
+unfolding Worded
 written c =
     let k = c .before .before .before in
-    c .substitute .ensures _ _ (body (k .before .before)) (lies-part (argument (k .before)) (ended k))
+    let has = placed-worded (redex (k .before .before .before .before .before .before) .3) in
+    c .substitute .ensures _ _ (body (k .before .before)) (has .0 .1) (lies-part (argument (k .before)) (ended k)) (has .1)
 
 surround-requires : tie.Need-surround-requires
 surround-requires c κs =

@@ -5,6 +5,7 @@ use borrow.Author.Needs.{needs}
 use Rattle.reduction.specs.declared.stepping.Redex.{Redex}
 use Rattle.reduction.specs.Stepping.{Located}
 use Rattle.reduction.proofs.Placing.{value-stays, stuck-stays}
+use Rattle.reduction.proofs.Replacing.{held-worded}
 use Rattle.reduction.proofs.stepping.step.Statement.{statement}
 use Rattle.reduction.proofs.stepping.step.Tie as tie
 
@@ -13,7 +14,7 @@ located : (c : tie.After-find-redex) {r : Redex}
     → Located (c .before .before .before .args .state .now) r
 located c told =
     let p = c .before .before .before .pre .0 in
-    (p .term, p .coded, p .short, sym (c .find-redex .ensures (p .term) (p .coded)) ∙ told)
+    (p .term, p .coded, held-worded p, p .short, sym (c .find-redex .ensures (p .term) (p .coded)) ∙ told)
 
 find-redex-requires : tie.Need-find-redex-requires
 find-redex-requires c κs =
@@ -38,10 +39,10 @@ cancel-requires c κs =
     (located w (c .before .before .at3 .given .1), w .before .before .before .pre .1)
 
 returns : tie.Need-returns
-returns c t coded = value-stays _ t (sym (c .before .before .find-redex .ensures t coded) ∙ c .enum-told .given .1)
+returns c t coded has = value-stays _ t (sym (c .before .before .find-redex .ensures t coded) ∙ c .enum-told .given .1)
 
 returns-2 : tie.Need-returns-2
-returns-2 c t coded = stuck-stays _ t (sym (c .before .before .find-redex .ensures t coded) ∙ c .enum-told2 .given .1)
+returns-2 c t coded has = stuck-stays _ t (sym (c .before .before .find-redex .ensures t coded) ∙ c .enum-told2 .given .1)
 
 pub step-spec : {M : Type 1} → statement M
 step-spec =

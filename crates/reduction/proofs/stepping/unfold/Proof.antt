@@ -6,7 +6,7 @@ use native.Mathlib.Omega.{arith}
 use borrow.Author.Needs.{needs}
 use lib.ListN.{length}
 use Rattle.calculus.specs.Term.{Term, mu, size, substitute}
-use Rattle.calculus.specs.Words.{Scoped}
+use Rattle.calculus.specs.Words.{Scoped, Worded}
 use Rattle.calculus.specs.Step.{step}
 use Rattle.term.specs.Kept.{Lies, kept}
 use Rattle.term.proofs.Nodes.{two-mu}
@@ -14,7 +14,7 @@ use Rattle.term.proofs.Keeping.{lies-first, lies-within}
 use Rattle.reduction.specs.declared.stepping.Kind.the-variants.{Unfolding}
 use Rattle.kept.specs.Writing.{Puts}
 use Rattle.reduction.proofs.Placing as place
-use Rattle.reduction.proofs.Placing.{Placed, unfold-placed, lies-node, lies-part, no-room, placed-lies, reaches}
+use Rattle.reduction.proofs.Placing.{Placed, unfold-placed, lies-node, lies-part, no-room, placed-lies, placed-worded, reaches}
 use Rattle.reduction.proofs.Replacing.{argument-fits, body-fits}
 use Rattle.reduction.proofs.stepping.unfold.Statement.{statement}
 use Rattle.reduction.proofs.stepping.unfold.Tie as tie
@@ -84,10 +84,12 @@ written : (c : tie.After-substitute)
     → let s = c .before .before .before .before .before .before .before .before in
     let x = substitute 0 (mu (redex s .0) (redex s .1)) (redex s .1) in
     Puts (kept x) (s .args .out .now) (s .args .at) (c .substitute .result) (c .substitute .last .1 .1 .1 .1 .0)
+unfolding Worded
 written c =
     let k = c .before .before .before in
     let s = k .before .before .before .before .before in
-    c .substitute .ensures _ _ (body (k .before)) (lies-part (recursion s) (ended k))
+    let has = placed-worded (redex s .2) in
+    c .substitute .ensures _ _ (body (k .before)) (has .1) (lies-part (recursion s) (ended k)) has
 
 surround-requires : tie.Need-surround-requires
 surround-requires c κs =

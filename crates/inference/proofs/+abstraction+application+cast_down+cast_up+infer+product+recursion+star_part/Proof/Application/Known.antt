@@ -10,12 +10,12 @@ use Rattle.calculus.specs.Words.{longest}
 use Rattle.calculus.specs.Rules.{Context}
 use Rattle.calculus.specs.Infer.{infer, measure}
 use Rattle.term.specs.Word.{meaning-of}
-use Rattle.inference.specs.Inference.{Subject}
+use Rattle.inference.specs.Inference.{judge, Subject}
 use Rattle.inference.specs.Moving.{Applies}
 use Rattle.inference.proofs.Applying.{right}
 use Rattle.inference.proofs.Calling.{Called, called, argument-subject, argument-words}
 use Rattle.inference.proofs.Passing.{Part, typed}
-use Rattle.inference.proofs.Rooms.{room-two}
+use Rattle.inference.proofs.Rooms.{room-two, subject-worded}
 use Rattle.inference.proofs.Subjects.{behind, first, subject-parts}
 use Rattle.inference.proofs.Nodes.{of-app}
 use Rattle.inference.proofs.Types.{type-fits}
@@ -64,7 +64,7 @@ pub typed-function : (t : ℕ) (c : application-lts.After-function (application-
     → let function-infer = c .before .before .before .before .before .before .infer in
     let start = start-place t c in
     Node t start Γ f u
-    → Part (infer (start .args .limit) Γ (length (start .args .term .now) - length (behind 1 (start .args .sub .now))) f) f
+    → Part (judge (start .args .limit) Γ (length (start .args .term .now) - length (behind 1 (start .args .sub .now))) f) f
     (start .args .context .now) (start .args .depth) (start .args .work .now) (start .args .top) (c .function .given .0 .0)
     (c .function .given .0 .1 .0) (function-infer .last .1 .1 .1 .1 .0) (function-infer .last .1 .1 .0)
 typed-function t c Γ f u S =
@@ -142,7 +142,9 @@ applies t c Γ f u S =
     let after-argument = c .before .before .before .before in
     let function = typed-function t (function-place t after-argument) Γ f u S in
     let C = calls t after-argument Γ f u S in
-    c .apply .ensures (C .domain) (C .codomain) u (C .type) (C .lies) (argument-words S _ function (C .further)) (C .type-lies)
+    let has = C .has-words (start-place t (function-place t after-argument) .pre .1 .1 .4 .allowed) in
+    c .apply .ensures (C .domain) (C .codomain) u (C .type) (C .lies) (has .0) (argument-words S _ function (C .further))
+    (subject-worded (argument-subject S _ function)) (C .type-lies) (has .1)
 
 -- If the argument's type is the domain, the type is the codomain with the argument put in, measured.
 pub measured : (t : ℕ) (c : application-lts.After-known-told2 (application-claims t) (application-at t) application.Post)
@@ -151,7 +153,7 @@ pub measured : (t : ℕ) (c : application-lts.After-known-told2 (application-cla
     (S : Node t start Γ f u)
     → calls t c Γ f u S .type ≡ calls t c Γ f u S .domain
     → let p = length (start .args .term .now) - length (start .args .sub .now) in
-    infer (start .args .limit) Γ p (app f u) ≡ measure (start .args .limit) p (substitute 0 u (calls t c Γ f u S .codomain))
+    judge (start .args .limit) Γ p (app f u) ≡ measure (start .args .limit) p (substitute 0 u (calls t c Γ f u S .codomain))
 measured t c Γ f u S alike = let C = calls t c Γ f u S in right _ Γ _ f u (C .function) (C .argument) alike
 
 -- The slice is still as long once the codomain is written.

@@ -16,7 +16,7 @@ use Rattle.inference.specs.Inference.{Subject, star-typed}
 use Rattle.inference.specs.Moving.{Moves}
 use Rattle.inference.proofs.Nodes.{of-castup}
 use Rattle.inference.proofs.Subjects.{behind, first}
-use Rattle.inference.proofs.Rooms.{room-two}
+use Rattle.inference.proofs.Rooms.{room-two, subject-worded, next-worded}
 use Rattle.inference.proofs.Passing.{Part, typed}
 use Rattle.inference.proofs.Parts.{Both, annotation-words, reaches, beside, both-beside}
 use Rattle.inference.proofs.Moved.{Moved, moved}
@@ -24,6 +24,7 @@ use Rattle.inference.proofs.Compared.{compared-behind}
 use Rattle.inference.proofs.cast_up.Reads as cast-up
 use Rattle.inference.proofs.+abstraction+application+cast_down+cast_up+infer+product+recursion+star_part.Lts-cast_up as cast-up-lts
 use Rattle.inference.proofs.+abstraction+application+cast_down+cast_up+infer+product+recursion+star_part.Proof.Measures.{cast-up-at, cast-up-claims}
+use Rattle.reduction.specs.Stepping.{next-of}
 
 -- The up cast, as the subject where the code starts.
 abbrev pub Node : (t : ℕ) → cast-up-lts.Start (cast-up-claims t) (cast-up-at t) cast-up.Post → Context → Term → Term → Type 0
@@ -141,10 +142,11 @@ pub moves : (t : ℕ) (c : cast-up-lts.After-step-into (cast-up-claims t) (cast-
     → let after-known-told2 = c .before .before .before .before in
     let start = start-place t (annotation-place t after-known-told2) in
     Node t start Γ a e
-    → Moves (step a) (after-known-told2 .before .before .before .before .before .before .before .infer .last .1 .1 .1 .1 .0)
+    → Moves (next-of a) (after-known-told2 .before .before .before .before .before .before .before .infer .last .1 .1 .1 .1 .0)
     (start .args .top + after-known-told2 .before .body .given .0 .1 .0)
     (start .args .limit) (c .step-into .result) (c .step-into .last .1 .1 .0)
-moves t c Γ a e S = c .step-into .ensures a (noted t (annotation-place t (c .before .before .before .before)) Γ a e S)
+moves t c Γ a e S =
+    c .step-into .ensures a (noted t (annotation-place t (c .before .before .before .before)) Γ a e S) (subject-worded (first S of-castup))
 
 -- The step leaves both as long as they were.
 pub long-still : (t : ℕ) (c : cast-up-lts.After-step-into (cast-up-claims t) (cast-up-at t) cast-up.Post)
@@ -164,10 +166,10 @@ pub next-state : (t : ℕ) (c : cast-up-lts.After-known-told3 (cast-up-claims t)
     let after-known-told2 = after-step-into .before .before .before .before in
     let start = start-place t (annotation-place t after-known-told2) in
     Node t start Γ a e
-    → Moved (step a) (after-known-told2 .before .before .before .before .before .before .before .infer .last .1 .1 .1 .1 .0)
+    → Moved (next-of a) (after-known-told2 .before .before .before .before .before .before .before .infer .last .1 .1 .1 .1 .0)
     (start .args .top + after-known-told2 .before .body .given .0 .1 .0)
     (start .args .limit) (c .before .count .given .0 .1 .0) (after-step-into .step-into .last .1 .1 .0)
-next-state t c Γ a e S = moved _ _ _ _ _ (step a) (moves t (c .before .before .before .before .before .before .before) Γ a e S)
+next-state t c Γ a e S = moved _ _ _ _ _ (next-of a) (moves t (c .before .before .before .before .before .before .before) Γ a e S)
     (c .before .count .given .1)
 
 -- It lies within the slice.
@@ -200,5 +202,7 @@ compared t c Γ a e S =
     after-known-told3 .before .before .before .before .before .before .before .before .before .before .before in
     let B = both t after-known-told2 Γ a e S in
     let m = next-state t after-known-told3 Γ a e S in
-    compared-behind _ _ _ _ (m .state) (B .type) (B .lies) (m .stored) (m .long)
+    let short = start-place t (annotation-place t after-known-told2) .pre .1 .1 .4 .allowed in
+    compared-behind _ _ _ _ (m .state) (B .type) (next-worded (first S of-castup) (m .steps) (omega (arith, m .fits, short)))
+    (B .has-words short) (B .lies) (m .stored) (m .long)
     (omega (arith, room t after-known-told2, m .long, m .fits)) (c .same .ensures)

@@ -18,7 +18,7 @@ use Rattle.term.specs.Kept.{kept}
 use Rattle.inference.specs.Inference.{Subject, star-typed}
 use Rattle.inference.proofs.Nodes.{of-mu}
 use Rattle.inference.proofs.Subjects.{behind, first}
-use Rattle.inference.proofs.Rooms.{room-two}
+use Rattle.inference.proofs.Rooms.{room-two, subject-worded, raised-worded}
 use Rattle.inference.proofs.Passing.{Part, typed}
 use Rattle.inference.proofs.Parts.{Both, annotation-words, reaches, below, both-below}
 use Rattle.kept.proofs.InPlace.{raise-size}
@@ -222,7 +222,7 @@ behind-type t c Γ a e S =
     raised-there (after-body .before .before .before .before .before .before .infer .last .1 .1 .1 .1 .0) next 1
     (2 * (next + m) - 2 * next) a
     (omega (arith, room t after-known-told2, B .read)) (omega (arith, B .read)) (noted-behind t after-note Γ a e S)
-    (c .raise .ensures a (noted-part t after-note Γ a e S))
+    (c .raise .ensures a (noted-part t after-note Γ a e S) (subject-worded (first S of-mu)))
 
 -- The slice is still as long as it was, so that both types lie within it; and so is `held`.
 pub long-raised : (t : ℕ) (c : recursion-lts.After-raise (recursion-claims t) (recursion-at t) recursion.Post)
@@ -274,6 +274,7 @@ compared t c Γ a e S =
     let r = room t after-known-told2 in
     let as-long = raised-place t c .before .before .before .before .before .before .before .if1 .left ∙ B .read ∙ sym
     (raise-size 1 0 a) in
-    compared-behind _ _ _ _ (raise 1 0 a) (B .type) (B .lies)
+    let short = start-place t (annotation-place t after-known-told2) .pre .1 .1 .4 .allowed in
+    compared-behind _ _ _ _ (raise 1 0 a) (B .type) (raised-worded (first S of-mu)) (B .has-words short) (B .lies)
     (behind-type t (c .before .before .before .before .before .before) Γ a e S) as-long (omega arith)
     (c .same .ensures)
