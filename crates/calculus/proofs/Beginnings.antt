@@ -12,8 +12,8 @@ use lib.Dec.{T}
 use Rattle.calculus.specs.Term.{Term, var, star, app, lam, pi, castup, castdown, mu}
 use Rattle.calculus.specs.Answer.{Reason}
 use Rattle.calculus.specs.Words.{emit, first-part, second-part, levels, Scoped, Named}
-use Rattle.calculus.specs.Meaning.{Meaning, a-star, a-castdown, an-app, a-castup, a-lam, a-pi, a-mu, a-variable, nothing, meaning, binds}
-use Rattle.calculus.specs.Reading.{Begins, Unread, no-word, meaningless, too-deep, outside, in-first, in-second}
+use Rattle.calculus.specs.Meaning.{Meaning, a-star, a-castdown, an-app, a-castup, a-lam, a-pi, a-mu, a-variable, a-name, nothing, meaning, binds}
+use Rattle.calculus.specs.Reading.{Begins, Unread, no-word, meaningless, unnamed, too-deep, outside, in-first, in-second}
 use Rattle.calculus.specs.Scan.{means}
 use Rattle.calculus.proofs.Meanings.{word, the-word, sorted}
 
@@ -101,19 +101,22 @@ module _ (room binders p w : ℕ) (ws : List ℕ) (below : (b q : ℕ) (vs : Lis
       on : Dec (i < binders) → Told (suc room) binders p (w ∷ ws)
       on (yes l) = no-part (var i) (λ rest. ap (λ v. v ∷ rest) (the-word w h tt)) refl l tt
       on (no n) = inr (_, _, outside {binders = binders} h (omega arith))
+  told-word (a-name i) h = inr (_, _, unnamed h)
   told-word nothing h = inr (_, _, meaningless h)
 
-something : (m : Meaning) → T (means m) → m ≢ nothing
-unfolding means
-something m t e = subst (λ n. T (means n)) e t
+-- What is not read is no meaning that is.
+another : (m n : Meaning) → T (means m) → ¬ T (means n) → m ≢ n
+another m n t k e = k (subst (λ x. T (means x)) e t)
 
 -- Where no level is left, no term fits.
 told-deep : (binders p w : ℕ) (ws : List ℕ) → Told zero binders p (w ∷ ws)
+unfolding means
 told-deep binders p w ws = on (sorted (meaning w))
   where
-    on : (meaning w ≡ nothing) ⊎ T (means (meaning w)) → Told zero binders p (w ∷ ws)
+    on : (meaning w ≡ nothing) ⊎ ((i : ℕ) × (meaning w ≡ a-name i)) ⊎ T (means (meaning w)) → Told zero binders p (w ∷ ws)
     on (inl e) = inr (_, _, meaningless e)
-    on (inr t) = inr (_, _, too-deep (something (meaning w) t))
+    on (inr (inl (i, e))) = inr (_, _, unnamed e)
+    on (inr (inr t)) = inr (_, _, too-deep (another (meaning w) nothing t (λ k. k)) (λ i. another (meaning w) (a-name i) t (λ k. k)))
 
 pub told : (room binders p : ℕ) (ws : List ℕ) → Told room binders p ws
 told zero binders p [] = inr (_, _, no-word)

@@ -17,20 +17,11 @@ use Rattle.calculus.specs.Book.{Book, View, _⊆_, types, bodies}
 use Rattle.calculus.specs.Rules.{Context, _⊩_⟶_, s-beta, s-castdownup, s-app, s-castdown, s-mu, s-name}
 use Rattle.calculus.specs.Kinds.{Kind}
 use Rattle.calculus.specs.Step.{Next, value, stuck, next, step}
-use Rattle.calculus.specs.Infer.{annotation, stored, measure, product, stepped, infer}
+use Rattle.calculus.specs.Infer.{Fitted, FittedContext, annotation, stored, measure, product, stepped, infer}
 use Rattle.calculus.proofs.Says.{Says, says-ok, says-refused, of-ok}
 use Rattle.calculus.proofs.Scoping.{scoped-more, step-scoped}
 use Rattle.calculus.proofs.Stepping.{next-step}
 use Rattle.calculus.proofs.Testing.{fitting, over}
-
--- Every free index is below `n`, and every name below N.
-abbrev pub Fitted : ℕ → ℕ → Term → Type 0
-Fitted N n t = Scoped n t × Named N t
-
--- Each annotation, as it stands outside its own binder.
-unfoldable pub FittedContext : ℕ → Context → Type 0
-FittedContext N [] = Unit
-FittedContext N (a ∷ Γ) = Fitted N (length Γ) a × FittedContext N Γ
 
 -- What a view shows is closed.
 abbrev pub Shows : ℕ → View → Type 0

@@ -1,5 +1,5 @@
--- The words and what they mean: the word `16 + i` means the variable `i` as long as `i` is below 2,032, and a word that means
--- something is the word of its meaning, so that no two words mean the same. A word from 7 on has no parts, whatever it means; how many
+-- The words and what they mean: the word `16 + i` means the variable `i` as long as `i` is below 2,032, the word `2048 + i` the name `i`
+-- below 32, and a word that is read is the word of its meaning, so that no two words mean the same. A word from 7 on has no parts, whatever it means; how many
 -- the others have is computed, word by word.
 use Prim.Native.Nat.{ℕ, zero, suc, _+_, _-_, _≤_, _<_}
 use mathlib.Core.Bool.{Bool, true, false, cond}
@@ -10,7 +10,7 @@ use native.Mathlib.Nat.{add-sub-cancel-left, add-sub-of-le, add-zero, zero-add}
 use native.Mathlib.Omega.{arith}
 use lib.Dec.{T, ltb, nltb→le}
 use lib.ListN.{length, getD, List·getD-eq-default}
-use Rattle.calculus.specs.Meaning.{Meaning, a-star, a-castdown, an-app, a-castup, a-lam, a-pi, a-mu, a-variable, nothing, meaning, binds, PartsByFormula}
+use Rattle.calculus.specs.Meaning.{Meaning, a-star, a-castdown, an-app, a-castup, a-lam, a-pi, a-mu, a-variable, a-name, nothing, meaning, binds, PartsByFormula}
 use Rattle.calculus.specs.Scan.{means}
 use Rattle.calculus.proofs.Comparisons.{le-leb, gt-leb}
 
@@ -24,9 +24,10 @@ word a-lam = 4
 word a-pi = 5
 word a-mu = 6
 word (a-variable i) = 16 + i
+word (a-name i) = 2048 + i
 word nothing = 7
 
--- The index of a variable is one that has a word.
+-- The index of a variable, and the number of a name, is one that has a word.
 unfoldable pub Indexed : Meaning → Type 0
 Indexed a-star = Unit
 Indexed a-castdown = Unit
@@ -36,6 +37,7 @@ Indexed a-lam = Unit
 Indexed a-pi = Unit
 Indexed a-mu = Unit
 Indexed (a-variable i) = i < 2032
+Indexed (a-name i) = i < 32
 Indexed nothing = Unit
 
 pub meaning-word : (m : Meaning) → Indexed m → meaning (word m) ≡ m
@@ -49,6 +51,14 @@ meaning-word a-pi h = refl
 meaning-word a-mu h = refl
 meaning-word (a-variable i) h =
     rw (gt-leb (suc (16 + i)) 16 (omega arith), le-leb (suc (16 + i)) 2048 (omega arith), add-sub-cancel-left 16 i) refl
+meaning-word (a-name i) h =
+    rw (
+      gt-leb (suc (2048 + i)) 16 (omega arith),
+      gt-leb (suc (2048 + i)) 2048 (omega arith),
+      le-leb (suc (2048 + i)) 2080 (omega arith),
+      add-sub-cancel-left 2048 i,
+    )
+    refl
 meaning-word nothing h = refl
 
 -- The meanings of words 0–6, in the order of the words.
@@ -71,30 +81,32 @@ in-order n (m ∷ ms) (suc w) h t = in-order (suc n) ms w (h .1) t ∙ omega ari
 
 pub word-meaning : (w : ℕ) → T (means (meaning w)) → word (meaning w) ≡ w
 unfolding meaning means word In-order
-word-meaning w = go (ltb w 16) (ltb w 2048) refl
+word-meaning w = go (ltb w 16) (ltb w 2048) (ltb w 2080) refl
   where
-    m : Bool → Bool → Meaning
-    m b c = cond b (getD nodes w nothing) (cond c (a-variable (w - 16)) nothing)
+    m : Bool → Bool → Bool → Meaning
+    m b c d = cond b (getD nodes w nothing) (cond c (a-variable (w - 16)) (cond d (a-name (w - 2048)) nothing))
 
-    go : (b c : Bool) → ltb w 16 ≡ b → T (means (m b c)) → word (m b c) ≡ w
-    go true c e t = in-order 0 nodes w (refl, (refl, (refl, (refl, (refl, (refl, (refl, tt))))))) t ∙ zero-add w
-    go false true e t = add-sub-of-le (nltb→le w 16 (rw e tt))
-    go false false e t = elim t [ ]
+    go : (b c d : Bool) → ltb w 16 ≡ b → T (means (m b c d)) → word (m b c d) ≡ w
+    go true c d e t = in-order 0 nodes w (refl, (refl, (refl, (refl, (refl, (refl, (refl, tt))))))) t ∙ zero-add w
+    go false true d e t = add-sub-of-le (nltb→le w 16 (rw e tt))
+    go false false true e t = elim t [ ]
+    go false false false e t = elim t [ ]
 
 pub the-word : (w : ℕ) {m : Meaning} → meaning w ≡ m → T (means m) → word m ≡ w
 the-word w e t = ap word (sym e) ∙ word-meaning w (rw e t)
 
--- A word means nothing or something.
-pub sorted : (m : Meaning) → (m ≡ nothing) ⊎ T (means m)
+-- A word means nothing, or a name, or it is read.
+pub sorted : (m : Meaning) → (m ≡ nothing) ⊎ ((i : ℕ) × (m ≡ a-name i)) ⊎ T (means m)
 unfolding means
-sorted a-star = inr tt
-sorted a-castdown = inr tt
-sorted an-app = inr tt
-sorted a-castup = inr tt
-sorted a-lam = inr tt
-sorted a-pi = inr tt
-sorted a-mu = inr tt
-sorted (a-variable i) = inr tt
+sorted a-star = inr (inr tt)
+sorted a-castdown = inr (inr tt)
+sorted an-app = inr (inr tt)
+sorted a-castup = inr (inr tt)
+sorted a-lam = inr (inr tt)
+sorted a-pi = inr (inr tt)
+sorted a-mu = inr (inr tt)
+sorted (a-variable i) = inr (inr tt)
+sorted (a-name i) = inr (inl (i, refl))
 sorted nothing = inl refl
 
 -- What holds of each word below 7, and of the words from 7 on, holds of every word.
@@ -109,19 +121,21 @@ by-word P p₀ p₁ p₂ p₃ p₄ p₅ p₆ others (suc (suc (suc (suc (suc (su
 by-word P p₀ p₁ p₂ p₃ p₄ p₅ p₆ others (suc (suc (suc (suc (suc (suc (suc w))))))) =
     others (suc (suc (suc (suc (suc (suc (suc w))))))) (omega arith)
 
--- From 7 on a word is a variable or means nothing: what holds of both holds of what the word means.
-pub from-seven : (P : Meaning → Type 0) (w : ℕ) → 7 ≤ w → P (a-variable (w - 16)) → P nothing → P (meaning w)
+-- From 7 on a word is a variable, a name, or means nothing: what holds of all three holds of what the word means.
+pub from-seven : (P : Meaning → Type 0) (w : ℕ) → 7 ≤ w → P (a-variable (w - 16)) → P (a-name (w - 2048)) → P nothing → P (meaning w)
 unfolding meaning
-from-seven P w low of-variable of-nothing = rw (List·getD-eq-default nodes nothing low) (either (ltb w 16) (ltb w 2048))
+from-seven P w low of-variable of-name of-nothing =
+    rw (List·getD-eq-default nodes nothing low) (either (ltb w 16) (ltb w 2048) (ltb w 2080))
   where
-    either : (b c : Bool) → P (cond b nothing (cond c (a-variable (w - 16)) nothing))
-    either true c = of-nothing
-    either false true = of-variable
-    either false false = of-nothing
+    either : (b c d : Bool) → P (cond b nothing (cond c (a-variable (w - 16)) (cond d (a-name (w - 2048)) nothing)))
+    either true c d = of-nothing
+    either false true d = of-variable
+    either false false true = of-name
+    either false false false = of-nothing
 
 pub no-binds : (w : ℕ) → 7 ≤ w → binds (meaning w) ≡ []
 unfolding binds
-no-binds w low = from-seven (λ m. binds m ≡ []) w low refl refl
+no-binds w low = from-seven (λ m. binds m ≡ []) w low refl refl refl
 
 pub parts-by-formula : PartsByFormula
 unfolding meaning binds

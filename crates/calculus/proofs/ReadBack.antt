@@ -13,7 +13,7 @@ use lib.ListN.{length}
 use Rattle.calculus.specs.Term.{Term, size}
 use Rattle.calculus.specs.Words.{words, Readable, Codes, longest, deepest}
 use Rattle.calculus.specs.Answer.{Reason, ok, refused, _>>=_, _>>_, require, number}
-use Rattle.calculus.specs.Reading.{Begins, Unread, no-word, meaningless, too-deep, outside, in-first, in-second, Sized, Misread, wrong-length, in-term, word-over}
+use Rattle.calculus.specs.Reading.{Begins, Unread, no-word, meaningless, unnamed, too-deep, outside, in-first, in-second, Sized, Misread, wrong-length, in-term, word-over}
 use Rattle.calculus.specs.Scan.{Pending, scan, the-first, read}
 use Rattle.calculus.specs.Reads.{Coding, Misreading}
 use Rattle.calculus.proofs.Comparisons.{le-leb, out-of-range}
@@ -109,7 +109,8 @@ unread-numbers : {room binders p q n : ℕ} {ws : List ℕ} {r : Reason} → Unr
 unfolding number
 unread-numbers no-word end = (lit≤ tt, lit≤ tt, omega arith)
 unread-numbers (meaningless e) end = (lit≤ tt, lit≤ tt, omega arith)
-unread-numbers (too-deep m) end = (lit≤ tt, lit≤ tt, omega arith)
+unread-numbers (unnamed e) end = (lit≤ tt, lit≤ tt, omega arith)
+unread-numbers (too-deep m k) end = (lit≤ tt, lit≤ tt, omega arith)
 unread-numbers (outside e l) end = (lit≤ tt, lit≤ tt, omega arith)
 unread-numbers (in-first e u) end = unread-numbers u (omega arith)
 unread-numbers (in-second {rest} {a} e b u) end = unread-numbers u (omega (arith, ap length (b .written), emit-length a rest))

@@ -11,8 +11,8 @@ use lib.Dec.{T, leb}
 use Rattle.calculus.specs.Term.{Term}
 use Rattle.calculus.specs.Words.{first-part, second-part}
 use Rattle.calculus.specs.Answer.{Reason, unbound, Answer, ok, refused, _>>=_, _>>_, require}
-use Rattle.calculus.specs.Meaning.{Meaning, a-star, a-castdown, an-app, a-castup, a-lam, a-pi, a-mu, a-variable, nothing, meaning, binds}
-use Rattle.calculus.specs.Reading.{Begins, Unread, no-word, meaningless, too-deep, outside, in-first, in-second}
+use Rattle.calculus.specs.Meaning.{Meaning, a-star, a-castdown, an-app, a-castup, a-lam, a-pi, a-mu, a-variable, a-name, nothing, meaning, binds}
+use Rattle.calculus.specs.Reading.{Begins, Unread, no-word, meaningless, unnamed, too-deep, outside, in-first, in-second}
 use Rattle.calculus.specs.Scan.{means, bound, test, node, Pending, below, scan}
 use Rattle.calculus.proofs.Comparisons.{passed, le-leb, gt-leb}
 use Rattle.calculus.proofs.Meanings.{sorted}
@@ -33,14 +33,16 @@ binds-one a-lam = (zero-le, (le-refl 1, tt))
 binds-one a-pi = (zero-le, (le-refl 1, tt))
 binds-one a-mu = (zero-le, (le-refl 1, tt))
 binds-one (a-variable i) = tt
+binds-one (a-name i) = tt
 binds-one nothing = tt
 
-meant : (m : Meaning) → m ≢ nothing → means m ≡ true
-meant m n = on (sorted m)
+meant : (m : Meaning) → m ≢ nothing → ((i : ℕ) → m ≢ a-name i) → means m ≡ true
+meant m n k = on (sorted m)
   where
-    on : (m ≡ nothing) ⊎ T (means m) → means m ≡ true
+    on : (m ≡ nothing) ⊎ ((i : ℕ) × (m ≡ a-name i)) ⊎ T (means m) → means m ≡ true
     on (inl e) = absurd (n e)
-    on (inr t) = passed (means m) t
+    on (inr (inl (i, e))) = absurd (k i e)
+    on (inr (inr t)) = passed (means m) t
 
 -- A word with parts means something and is no variable.
 parted : (m : Meaning) (b : ℕ) {k : ℕ} {ks : List ℕ} → binds m ≡ k ∷ ks → (means m ≡ true) × (bound m b ≡ true)
@@ -53,6 +55,7 @@ parted a-lam b e = (refl, refl)
 parted a-pi b e = (refl, refl)
 parted a-mu b e = (refl, refl)
 parted (a-variable i) b e = absurd (true≢false (cc e))
+parted (a-name i) b e = absurd (true≢false (cc e))
 parted nothing b e = absurd (true≢false (cc e))
 
 abbrev pending : ℕ → ℕ → Pending
@@ -113,7 +116,8 @@ pub scan-refuses : {room binders p q : ℕ} {ws : List ℕ} {r : Reason}
 unfolding scan test means bound require _>>=_ _>>_ One-each
 scan-refuses no-word known ss = refl
 scan-refuses (meaningless e) known ss = rw e refl
-scan-refuses (too-deep {w} n) known ss = rw (meant (meaning w) n) refl
+scan-refuses (unnamed e) known ss = rw e refl
+scan-refuses (too-deep {w} n k) known ss = rw (meant (meaning w) n k) refl
 scan-refuses (outside {room} {binders} {p} {w} {i} {ws} e l) known ss = scan-outside room binders w i e l ws ss p
 scan-refuses (in-first {room} {binders} {p} {w} {ks} {ws} e u) known ss =
     let (small, _) = rw e at (binds-one (meaning w)) in

@@ -33,6 +33,12 @@ infix 20 _⊆_
 abbrev pub _⊆_ : View → View → Type 0
 _⊆_ v w = (i : ℕ) (e : Term) → v i ≡ some e → w i ≡ some e
 
+-- The definition that a name stands for, where it is in the book.
+unfoldable pub entry : Book → ℕ → Option Definition
+entry [] i = none
+entry (d ∷ B) zero = some d
+entry (d ∷ B) (suc i) = entry B i
+
 -- What is seen of each definition of a book; nothing of a name that is not in it.
 unfoldable pub view : (Definition → Option Term) → Book → View
 view see [] i = none

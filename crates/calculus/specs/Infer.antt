@@ -6,9 +6,10 @@ use mathlib.Core.List.{[], _∷_}
 use mathlib.Core.Option.{Option, none, some}
 use native.Mathlib.Decide.{ℕ-discrete}
 use lib.Dec.{leb}
+use lib.ListN.{length}
 use Rattle.calculus.specs.Term.{Term, Term-discrete, var, star, app, lam, pi, castup, castdown, mu, name, size, raise, substitute}
 use Rattle.calculus.specs.Answer.{Answer, ok, refused, _>>=_, _>>_, require, not-star, not-product, wrong-argument, no-step, wrong-cast, wrong-recursion, over-limit}
-use Rattle.calculus.specs.Words.{first-part, second-part}
+use Rattle.calculus.specs.Words.{first-part, second-part, Scoped, Named}
 use Rattle.calculus.specs.Book.{View}
 use Rattle.calculus.specs.Rules.{Context}
 use Rattle.calculus.specs.Step.{Next, value, stuck, next}
@@ -18,6 +19,14 @@ unfoldable pub annotation : Context → ℕ → Term
 annotation [] i = star
 annotation (τ ∷ Γ) zero = raise 1 0 τ
 annotation (τ ∷ Γ) (suc i) = raise 1 0 (annotation Γ i)
+
+-- A term with free indices below `n` and names below N; and a context of which each annotation is one, outside its own binder.
+abbrev pub Fitted : ℕ → ℕ → Term → Type 0
+Fitted N n t = Scoped n t × Named N t
+
+unfoldable pub FittedContext : ℕ → Context → Type 0
+FittedContext N [] = Unit
+FittedContext N (a ∷ Γ) = Fitted N (length Γ) a × FittedContext N Γ
 
 -- A stored type. (No name of a readable term is outside its book.)
 unfoldable pub stored : Option Term → Term

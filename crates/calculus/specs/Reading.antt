@@ -7,7 +7,7 @@ use lib.ListN.{length}
 use Rattle.calculus.specs.Term.{Term, size}
 use Rattle.calculus.specs.Answer.{Reason, length-not-allowed, no-meaning, list-ends, words-after, level-65, unbound}
 use Rattle.calculus.specs.Words.{emit, first-part, second-part, levels, Scoped, Named, longest, deepest}
-use Rattle.calculus.specs.Meaning.{a-variable, nothing, meaning, binds}
+use Rattle.calculus.specs.Meaning.{a-variable, a-name, nothing, meaning, binds}
 
 -- The words `ws` begin with those of the term `t`, of at most `room` levels and with no free index from `binders` on; behind them
 -- stands `rest`. No word names anything.
@@ -25,8 +25,10 @@ pub data Unread : ℕ → ℕ → ℕ → List ℕ → Reason → ℕ → Type 0
   no-word : {room binders p : ℕ} → Unread room binders p [] list-ends p
   -- "place of the word | 5 | word without meaning"
   meaningless : {room binders p w : ℕ} {ws : List ℕ} → meaning w ≡ nothing → Unread room binders p (w ∷ ws) no-meaning p
+  -- No call is lent a book: a name means nothing there.
+  unnamed : {room binders p w i : ℕ} {ws : List ℕ} → meaning w ≡ a-name i → Unread room binders p (w ∷ ws) no-meaning p
   -- "place of the word | 8 | node at level 65": no level is left
-  too-deep : {binders p w : ℕ} {ws : List ℕ} → meaning w ≢ nothing → Unread zero binders p (w ∷ ws) level-65 p
+  too-deep : {binders p w : ℕ} {ws : List ℕ} → meaning w ≢ nothing → ((i : ℕ) → meaning w ≢ a-name i) → Unread zero binders p (w ∷ ws) level-65 p
   -- "place of the word | 9 | variable outside all its binders"
   outside : {room binders p w i : ℕ} {ws : List ℕ}
       → meaning w ≡ a-variable i → binders ≤ i → Unread (suc room) binders p (w ∷ ws) unbound p

@@ -5,17 +5,17 @@ use mathlib.Core.Bool.{Bool, true, false, _&&_}
 use mathlib.Core.List.{List, [], _∷_, _++_, map}
 use lib.Dec.{ltb, leb}
 use lib.ListN.{length}
-use Rattle.calculus.specs.Term.{Term, var, star, app, lam, pi, castup, castdown, mu}
+use Rattle.calculus.specs.Term.{Term, var, star, app, lam, pi, castup, castdown, mu, name}
 use Rattle.calculus.specs.Words.{longest, deepest}
 use Rattle.calculus.specs.Answer.{Answer, ok, refused, _>>=_, _>>_, require, length-not-allowed, no-meaning, list-ends, words-after, level-65, unbound}
-use Rattle.calculus.specs.Meaning.{Meaning, a-star, a-castdown, an-app, a-castup, a-lam, a-pi, a-mu, a-variable, nothing, meaning, binds}
+use Rattle.calculus.specs.Meaning.{Meaning, a-star, a-castdown, an-app, a-castup, a-lam, a-pi, a-mu, a-variable, a-name, nothing, meaning, binds}
 
 -- A subterm still to come: how many levels it may have, and how many binders are around it.
 pub record Pending : Type 0 where
   pub room : ℕ
   pub binders : ℕ
 
--- A word has a meaning.
+-- A word has a meaning where it is read: no call is lent a book, so that no word names anything.
 unfoldable pub means : Meaning → Bool
 means a-star = true
 means a-castdown = true
@@ -25,6 +25,7 @@ means a-lam = true
 means a-pi = true
 means a-mu = true
 means (a-variable i) = true
+means (a-name i) = false
 means nothing = false
 
 -- A variable stands inside its binder.
@@ -37,6 +38,7 @@ bound a-lam b = true
 bound a-pi b = true
 bound a-mu b = true
 bound (a-variable i) b = ltb i b
+bound (a-name i) b = true
 bound nothing b = true
 
 -- "Words are read left to right, each tested in the order 5, 8, 9."
@@ -67,6 +69,7 @@ node a-lam ts = node₂ lam ts
 node a-pi ts = node₂ pi ts
 node a-mu ts = node₂ mu ts
 node (a-variable i) ts = var i ∷ ts
+node (a-name i) ts = name i ∷ ts
 node nothing ts = ts
 
 -- A part of a subterm: one level less, and the binders of its node besides.

@@ -10,8 +10,9 @@ use lib.ListN.{length}
 use Rattle.calculus.specs.Term.{Term}
 use Rattle.calculus.specs.Words.{words, Readable, longest}
 use Rattle.calculus.specs.Answer.{refused, Reason}
-use Rattle.calculus.specs.Book.{bodies}
+use Rattle.calculus.specs.Book.{Book, bodies}
 use Rattle.calculus.specs.Growing.{nothing-added}
+use Rattle.calculus.specs.Step.{step}
 use Rattle.calculus.specs.Run.{Ends, run-from}
 use Rattle.calculus.specs.Outcomes.{Ran, Desk, last-caller, grant, run, run-room}
 use Rattle.calculus.specs.Runs.{Runs, ended}
@@ -19,7 +20,6 @@ use Rattle.calculus.specs.Safety.{SafeRun}
 use Rattle.calculus.proofs.Courses.{run-course}
 use Rattle.calculus.proofs.RunDemand.{run-answer}
 use Rattle.calculus.proofs.SafetyDemand.{demand3}
-use Rattle.reduction.specs.Stepping.{next-of}
 use Rattle.evaluation.specs.declared.Course.{Course}
 use Rattle.evaluation.specs.Courses.{Performs, ended as left}
 use Rattle.evaluation.specs.declared.Outcome.{Outcome}
@@ -27,11 +27,11 @@ use Rattle.evaluation.specs.Outcomes.{answer-of, end-of, ran-of}
 use Rattle.kept.proofs.Begun.{cleared-same}
 
 -- A course takes no more steps than are granted.
-pub steps-within : (g : ℕ) {t : Term} {W S : List ℕ} {c : Course} {W′ S′ : List ℕ}
-    → Readable 0 t
-    → Performs (run-from next-of g t) W S c W′ S′
+pub steps-within : (B : Book) (g : ℕ) {t : Term} {W S : List ℕ} {c : Course} {W′ S′ : List ℕ}
+    → Readable (length B) t
+    → Performs (run-from (step (bodies B)) g t) W S c W′ S′
     → c .steps .total ≤ g
-steps-within g {t} r p = omega (arith, p .steps, run-course (bodies []) g t (r .short) .within)
+steps-within B g {t} r p = omega (arith, p .steps, run-course (bodies B) g t (r .short) .within)
 
 module _ (ws : List ℕ) (budget caller : ℕ) (desk : Desk) (W S : List ℕ) where
   -- What `run` ensures of its outcome.
@@ -55,7 +55,7 @@ module _ (ws : List ℕ) (budget caller : ℕ) (desk : Desk) (W S : List ℕ) wh
   pub meets-course : {t : Term} {c : Course} {W′ S′ : List ℕ} {x : Ran}
       → ws ≡ words t
       → Readable 0 t
-      → Performs (run-from next-of (grant budget caller desk) t) W S c W′ S′
+      → Performs (run-from (step (bodies [])) (grant budget caller desk) t) W S c W′ S′
       → caller ≤ last-caller
       → run-room ≤ length W
       → longest ≤ length S

@@ -5,7 +5,7 @@ use mathlib.Core.List.{List}
 use mathlib.Core.Path.{_≡_}
 use lib.ListN.{take, drop}
 use Rattle.calculus.specs.Term.{Term, size}
-use Rattle.calculus.specs.Words.{words, Scoped, longest}
+use Rattle.calculus.specs.Words.{words, Scoped, Named, longest}
 use Rattle.calculus.specs.Kinds.{total}
 use Rattle.calculus.specs.Step as calculus
 use Rattle.calculus.specs.Answer.{ok}
@@ -25,21 +25,22 @@ unfoldable pub buffer : Bool → List ℕ → List ℕ → List ℕ
 buffer true work other = work
 buffer false work other = other
 
--- The closed term `x` of `count` nodes, at most 1,024, is kept at the front of a buffer.
-pub record Holds (slice : List ℕ) (count : ℕ) (x : Term) : Type 0 where
+-- The closed term `x` of `count` nodes, at most 1,024, which names definitions below `N` alone, is kept at the front of a buffer.
+pub record Holds (N : ℕ) (slice : List ℕ) (count : ℕ) (x : Term) : Type 0 where
   pub front : take (2 * count) slice ≡ kept x
   pub extent : count ≡ size x
   pub short : size x ≤ longest
   pub closed : Scoped 0 x
+  pub named : Named N x
 
 -- One step of a state: the next state is kept at the front of the buffer `next`, where there is one and it fits.
-unfoldable pub Advances : calculus.Next → Stepped → List ℕ → Type 0
-Advances calculus.value r next = r ≡ stepped.Value
-Advances calculus.stuck r next = r ≡ stepped.Stuck
-Advances (calculus.next k y) r next =
+unfoldable pub Advances : ℕ → calculus.Next → Stepped → List ℕ → Type 0
+Advances N calculus.value r next = r ≡ stepped.Value
+Advances N calculus.stuck r next = r ≡ stepped.Stuck
+Advances N (calculus.next k y) r next =
     (K : Kind)
     × (kind-of K ≡ k)
-    × (size y ≤ longest → (r ≡ stepped.To K (size y)) × Holds next (size y) y)
+    × (size y ≤ longest → (r ≡ stepped.To K (size y)) × Holds N next (size y) y)
     × (longest < size y → r ≡ stepped.Full)
 
 -- The counts by kind are the steps in all.
@@ -47,11 +48,11 @@ abbrev pub AddUp : Steps → Type 0
 AddUp s = total (counts-of s) ≡ s .total
 
 -- A course as the calculus has it, with the last state at the front of the buffer `last`.
-pub record Goes (e : Ended) (r : Course) (last : List ℕ) : Type 0 where
+pub record Goes (N : ℕ) (e : Ended) (r : Course) (last : List ℕ) : Type 0 where
   pub end : end-of (r .end) ≡ e .end
   pub steps : r .steps .total ≡ e .steps
   pub counts : counts-of (r .steps) ≡ e .counts
-  pub holds : Holds last (r .length) (e .state)
+  pub holds : Holds N last (r .length) (e .state)
 
 -- A course as the calculus has it: its last state is handed over; behind the room of a buffer the working slice is as it was.
 pub record Performs (e : Ended) (work state : List ℕ) (r : Course) (work′ state′ : List ℕ) : Type 0 where

@@ -1,4 +1,6 @@
-// Runs (document 01, Calls): a closed term stepped within a grant, and the desk from which the steps are taken (document 02, 2.9).
+// Runs (document 01, Calls): a closed term stepped within a grant over a book, of which "runs unfold all" (document 02, 2.3), and the
+// desk from which the steps are taken (document 02, 2.9).
+use book::Reader;
 use kept::clearing::clear;
 use kept::keeping::note;
 use kept::keeping::spell;
@@ -17,15 +19,17 @@ ghost use mathlib.Core.Bool.{not};
 ghost use mathlib.Core.List.{List, []};
 ghost use lib.ListN.{length, take, drop};
 ghost use Rattle.calculus.specs.Term.{Term};
+ghost use Rattle.calculus.specs.Book.{Book, bodies};
 ghost use Rattle.calculus.specs.Words.{Readable, words, longest};
+ghost use Rattle.calculus.specs.Step as calculus;
 ghost use Rattle.calculus.specs.Answer.{refused};
 ghost use Rattle.calculus.specs.Kinds.{counting};
 ghost use Rattle.calculus.specs.Run.{last-end, run-from};
 ghost use Rattle.calculus.specs.Outcomes.{allowance-of, alone, last-caller, lowered, run, run-room};
 ghost use Rattle.calculus.specs.Safety.{SafeRun};
 ghost use Rattle.term.specs.Reasons.{reason-of};
-ghost use Rattle.term.specs.Kept.{kept};
-ghost use Rattle.reduction.specs.Stepping.{Held, kind-of, next-of};
+ghost use Rattle.book.specs.Layout as layout;
+ghost use Rattle.reduction.specs.Stepping.{Held, Keeps, kind-of};
 ghost use Rattle.evaluation.specs.Courses.{AddUp, Advances, Goes, Holds, Performs, buffer, ended};
 ghost use Rattle.evaluation.specs.Outcomes.{answer-of, counts-of, end-of, ran-of};
 
@@ -137,34 +141,40 @@ fn current<'a>(lent: bool, work: &'a [u16], other: &'a [u16], count: usize) -> &
 
 // Takes one step of the state, from the buffer that has it into the front of the other one: what is read and what is written cannot
 // lie in one slice. Where the next state does not fit, the state is where it was.
-fn advance(lent: bool, work: &mut [u16], other: &mut [u16], count: usize) -> Stepped
-    requires { ⌜ (2 * longest ≤ length (now work)) × (length (now other) ≡ 2 * longest) × ((x : Term) × Holds (buffer lent (now work) (now other)) count x) ⌝ }
-    ensures { λ r. ⌜ ((x : Term) → Holds (buffer lent (now (work .entry)) (now (other .entry))) count x → Advances (next-of x) r (buffer (not lent) (now (work .exit)) (now (other .exit)))) ⌝ }
+fn advance(lent: bool, work: &mut [u16], other: &mut [u16], count: usize, book: &[u16]) -> Stepped
+    requires { ⌜ (2 * longest ≤ length (now work)) × (length (now other) ≡ 2 * longest) × ((B : Book) × (x : Term) × layout.Holds B (now book) × Holds (length B) (buffer lent (now work) (now other)) count x) ⌝ }
+    ensures { λ r. ⌜ ((B : Book) (x : Term) → layout.Holds B (now (book .entry)) → Holds (length B) (buffer lent (now (work .entry)) (now (other .entry))) count x → Advances (length B) (calculus.step (bodies B) x) r (buffer (not lent) (now (work .exit)) (now (other .exit)))) ⌝ }
     ensures { λ r. ⌜ (buffer lent (now (work .exit)) (now (other .exit)) ≡ buffer lent (now (work .entry)) (now (other .entry))) × (drop (2 * longest) (now (work .exit)) ≡ drop (2 * longest) (now (work .entry))) ⌝ }
 {
     if lent {
-        return step(&work[..2 * count], true, other);
+        return step(&work[..2 * count], true, other, book, Reader::Everybody);
     }
-    step(&other[..2 * count], true, &mut work[..2048])
+    step(
+        &other[..2 * count],
+        true,
+        &mut work[..2048],
+        book,
+        Reader::Everybody,
+    )
 }
 
 // The end of a run whose grant is used: its state tells it, and no step is written.
-fn last_end(state: &[u16]) -> End
-    requires { ⌜ Held (now state) ⌝ }
-    ensures { λ r. ⌜ ((x : Term) → now (state .entry) ≡ kept x → end-of r ≡ last-end (next-of x)) ⌝ }
+fn last_end(state: &[u16], book: &[u16]) -> End
+    requires { ⌜ Held (now book) (now state) ⌝ }
+    ensures { λ r. ⌜ ((B : Book) (x : Term) → layout.Holds B (now (book .entry)) → Keeps B x (now (state .entry)) → end-of r ≡ last-end (calculus.step (bodies B) x)) ⌝ }
 {
-    match find_redex(state) {
+    match find_redex(state, book, Reader::Everybody) {
         Redex::Value => End::Value,
         Redex::Stuck => End::Stuck,
-        Redex::Beta(_) | Redex::Cancel(_) | Redex::Unfold(_) => End::Spent,
+        Redex::Beta(_) | Redex::Cancel(_) | Redex::Unfold(_) | Redex::Name(_) => End::Spent,
     }
 }
 
 // Runs the closed term of `size` nodes that the lent buffer begins with. The ends are tested in the order value, stuck, spent, too
 // long: while a step is left, the step itself tells a value or a stuck state before it writes, and only then a state that does not fit.
-fn go(size: usize, grant: u32, work: &mut [u16], other: &mut [u16]) -> Course
-    requires { ⌜ (2 * longest ≤ length (now work)) × (length (now other) ≡ 2 * longest) × ((t : Term) × Holds (now work) size t) ⌝ }
-    ensures { λ r. ⌜ ((t : Term) → Holds (now (work .entry)) size t → Goes (run-from next-of grant t) r (buffer (r .lent) (now (work .exit)) (now (other .exit)))) ⌝ }
+fn go(size: usize, grant: u32, work: &mut [u16], other: &mut [u16], book: &[u16]) -> Course
+    requires { ⌜ (2 * longest ≤ length (now work)) × (length (now other) ≡ 2 * longest) × ((B : Book) × (t : Term) × layout.Holds B (now book) × Holds (length B) (now work) size t) ⌝ }
+    ensures { λ r. ⌜ ((B : Book) (t : Term) → layout.Holds B (now (book .entry)) → Holds (length B) (now (work .entry)) size t → Goes (length B) (run-from (calculus.step (bodies B)) grant t) r (buffer (r .lent) (now (work .exit)) (now (other .exit)))) ⌝ }
     ensures { λ r. ⌜ drop (2 * longest) (now (work .exit)) ≡ drop (2 * longest) (now (work .entry)) ⌝ }
 {
     let mut count = size;
@@ -176,7 +186,7 @@ fn go(size: usize, grant: u32, work: &mut [u16], other: &mut [u16]) -> Course
         cancellations: 0,
     };
     while steps.total < grant {
-        match advance(lent, work, other, count) {
+        match advance(lent, work, other, count, book) {
             Stepped::Value => {
                 return Course {
                     end: End::Value,
@@ -208,7 +218,7 @@ fn go(size: usize, grant: u32, work: &mut [u16], other: &mut [u16]) -> Course
             }
         }
     }
-    let end = last_end(current(lent, work, other, count));
+    let end = last_end(current(lent, work, other, count), book);
     Course {
         end,
         steps,
@@ -218,13 +228,13 @@ fn go(size: usize, grant: u32, work: &mut [u16], other: &mut [u16]) -> Course
 }
 
 // Runs the term, and hands over the state that it came to. One of the two buffers is the front of the lent slice, the other is its own.
-fn perform(term: &[u16], grant: u32, work: &mut [u16], state: &mut [u16]) -> Course
-    requires { ⌜ (2 * longest ≤ length (now work)) × (longest ≤ length (now state)) × ((t : Term) × (now term ≡ words t) × Readable 0 t) ⌝ }
-    ensures { λ r. ⌜ ((t : Term) → now (term .entry) ≡ words t → Readable 0 t → Performs (run-from next-of grant t) (now (work .entry)) (now (state .entry)) r (now (work .exit)) (now (state .exit))) ⌝ }
+fn perform(term: &[u16], grant: u32, work: &mut [u16], state: &mut [u16], book: &[u16]) -> Course
+    requires { ⌜ (2 * longest ≤ length (now work)) × (longest ≤ length (now state)) × ((B : Book) × (t : Term) × layout.Holds B (now book) × (now term ≡ words t) × Readable (length B) t) ⌝ }
+    ensures { λ r. ⌜ ((B : Book) (t : Term) → layout.Holds B (now (book .entry)) → now (term .entry) ≡ words t → Readable (length B) t → Performs (run-from (calculus.step (bodies B)) grant t) (now (work .entry)) (now (state .entry)) r (now (work .exit)) (now (state .exit))) ⌝ }
 {
     let mut other = [0u16; 2048];
     note(term, work, 0);
-    let course = go(term.len(), grant, work, &mut other);
+    let course = go(term.len(), grant, work, &mut other, book);
     spell(current(course.lent, work, &other, course.length), state);
     course
 }
@@ -254,7 +264,7 @@ fn refused(reason: Reason, place: usize, desk: Desk) -> Outcome
     }
 }
 
-// A run of document 01, for one of the callers of the desk.
+// A run of document 01, for one of the callers of the desk. Any slice holds the empty book, so an empty part of the words is lent for it.
 pub fn run(
     term: &[u16],
     budget: u32,
@@ -285,6 +295,6 @@ pub fn run(
     } else {
         allowance
     };
-    let course = perform(term, grant, work, state);
+    let course = perform(term, grant, work, state, &term[..0]);
     settle(course, work, caller, desk)
 }

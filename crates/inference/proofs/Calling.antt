@@ -24,14 +24,15 @@ use Rattle.inference.proofs.Types.{type-scoped, type-fits, type-worded}
 use Rattle.inference.proofs.Passing.{Part}
 use Rattle.inference.proofs.Heads.{Headed, type-headed, type-meaning}
 use Rattle.inference.proofs.KeptTypes.{same-part}
+use Rattle.book.specs.declared.Reader.{Reader}
 
 -- Function `f` and argument `u` of an application at `p`.
-pub record Called (L : ℕ) (Γ : Context) (p : ℕ) (f u : Term) (places : List ℕ) (depth : ℕ) (work : List ℕ) (top n more m own : ℕ) (after places′ : List ℕ) : Type 0 where
+pub record Called (who : Reader) (book : List ℕ) (L : ℕ) (Γ : Context) (p : ℕ) (f u : Term) (places : List ℕ) (depth : ℕ) (work : List ℕ) (top n more m own : ℕ) (after places′ : List ℕ) : Type 0 where
   pub domain : Term
   pub codomain : Term
   pub type : Term
-  pub function : judge L Γ (suc p) f ≡ ok (pi domain codomain)
-  pub argument : judge L Γ (suc p + size f) u ≡ ok type
+  pub function : judge who book L Γ (suc p) f ≡ ok (pi domain codomain)
+  pub argument : judge who book L Γ (suc p + size f) u ≡ ok type
   pub read : n ≡ size f
   pub further : more ≡ size u
   pub long : m ≡ suc (size domain + size codomain)
@@ -45,16 +46,16 @@ pub record Called (L : ℕ) (Γ : Context) (p : ℕ) (f u : Term) (places : List
   pub context : take depth places′ ≡ take depth places
   pub wide : length places′ ≡ length places
 
-module _ {Γ : Context} {f u : Term} {term sub places : List ℕ} {depth : ℕ} (S : Subject Γ (app f u) term sub places depth) (L : ℕ)
+module _ {book : List ℕ} {Γ : Context} {f u : Term} {term sub places : List ℕ} {depth : ℕ} (S : Subject book Γ (app f u) term sub places depth) (who : Reader) (L : ℕ)
     {work : List ℕ} {top n m : ℕ} {between places₁ : List ℕ}
-    (F : Part (judge L Γ (length term - length (behind 1 sub)) f) f places depth work top n m between places₁) where
-  pub argument-subject : Subject Γ u term (behind (1 + n) sub) places₁ depth
+    (F : Part (judge who book L Γ (length term - length (behind 1 sub)) f) f places depth work top n m between places₁) where
+  pub argument-subject : Subject book Γ u term (behind (1 + n) sub) places₁ depth
   argument-subject = second (replaced S (F .context) (F .wide)) (1 + n) of-app (ap (λ k. 1 + k) (F .read))
 
   pub argument-words : {more : ℕ} → more ≡ size u → take (1 + n + more - (1 + n)) (drop (1 + n) sub) ≡ words u
   argument-words {more} x = part-words sub (1 + n) (1 + n + more - (1 + n)) argument-subject (omega arith)
 
-  pub function-found : judge L Γ (suc (length term - length sub)) f ≡ ok (F .type)
+  pub function-found : judge who book L Γ (suc (length term - length sub)) f ≡ ok (F .type)
   function-found = rw (← place-first S) (F .found)
 
   -- The first word decides whether its type is a product.
@@ -64,16 +65,16 @@ module _ {Γ : Context} {f u : Term} {term sub places : List ℕ} {depth : ℕ} 
 
   pub is-product : a-pi ≡ meaning (word-at between top) → (a : Term) × (b : Term) × (F .type ≡ pi a b)
   unfolding Headed
-  is-product w = type-headed L _ (first S of-app) F w
+  is-product w = type-headed who L _ (first S of-app) F w
 
   pub function-product : (w : a-pi ≡ meaning (word-at between top))
-      → judge L Γ (suc (length term - length sub)) f ≡ ok (pi (is-product w .0) (is-product w .1))
+      → judge who book L Γ (suc (length term - length sub)) f ≡ ok (pi (is-product w .0) (is-product w .1))
   function-product w = function-found ∙ ap ok (is-product w .2)
 
   pub called : {more own : ℕ} {after places′ : List ℕ}
       → a-pi ≡ meaning (word-at between top)
-      → Part (judge L Γ (length term - length (behind (1 + n) sub)) u) u places₁ depth between (top + m) more own after places′
-      → Called L Γ (length term - length sub) f u places depth work top n more m own after places′
+      → Part (judge who book L Γ (length term - length (behind (1 + n) sub)) u) u places₁ depth between (top + m) more own after places′
+      → Called who book L Γ (length term - length sub) f u places depth work top n more m own after places′
   unfolding size Scoped
   called {after} w U =
       let x = is-product w .2 in
@@ -87,11 +88,11 @@ module _ {Γ : Context} {f u : Term} {term sub places : List ℕ} {depth : ℕ} 
         read = F .read;
         further = U .read;
         long = F .long ∙ ap size x;
-        fits = omega (arith, F .long, type-fits (first S of-app) L _ (F .found));
-        own-fits = omega (arith, U .long, type-fits argument-subject L _ (U .found));
+        fits = omega (arith, F .long, type-fits (first S of-app) who L _ (F .found));
+        own-fits = omega (arith, U .long, type-fits argument-subject who L _ (U .found));
         has-words = λ short.
-            (subst Worded x (type-worded (first S of-app) L _ (F .found) short), type-worded argument-subject L _ (U .found) short);
-        scoped = subst (Scoped (length Γ)) x (type-scoped (first S of-app) L _ (F .found)) .1;
+            (subst Worded x (type-worded (first S of-app) who L _ (F .found) short), type-worded argument-subject who L _ (U .found) short);
+        scoped = subst (Scoped (length Γ)) x (type-scoped (first S of-app) who L _ (F .found)) .1;
         lies =
             same-part between after (2 * top) (2 * m)
             (ap (λ k. take k after) nodes ∙ U .front ∙ ap (λ k. take k between) (sym nodes))
@@ -107,11 +108,11 @@ module _ {Γ : Context} {f u : Term} {term sub places : List ℕ} {depth : ℕ} 
         wide = U .wide ∙ F .wide;
       }
 
-module _ {L : ℕ} {Γ : Context} {p : ℕ} {f u : Term} {places : List ℕ} {depth : ℕ} {work : List ℕ} {top n more m own : ℕ} {after places′ : List ℕ}
-    (C : Called L Γ p f u places depth work top n more m own after places′) where
+module _ {who : Reader} {book : List ℕ} {L : ℕ} {Γ : Context} {p : ℕ} {f u : Term} {places : List ℕ} {depth : ℕ} {work : List ℕ} {top n more m own : ℕ} {after places′ : List ℕ}
+    (C : Called who book L Γ p f u places depth work top n more m own after places′) where
   -- What is asked of the function's type.
   pub called-product : {term sub : List ℕ}
-      → Subject Γ (app f u) term sub places depth
+      → Subject book Γ (app f u) term sub places depth
       → L ≤ longest
       → Product (take (2 * m) (drop (2 * top) after))
   unfolding size

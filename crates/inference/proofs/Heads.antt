@@ -16,7 +16,7 @@ use Rattle.calculus.specs.Term.{Term, var, star, app, lam, pi, castup, castdown
 use Rattle.calculus.specs.Answer.{Answer}
 use Rattle.calculus.specs.Words.{emit, Scoped, Named, deepest}
 use Rattle.calculus.specs.Meaning as calculus
-use Rattle.calculus.specs.Meaning.{meaning, a-star, a-castdown, an-app, a-castup, a-lam, a-pi, a-mu, a-variable, nothing}
+use Rattle.calculus.specs.Meaning.{meaning, a-star, a-castdown, an-app, a-castup, a-lam, a-pi, a-mu, a-variable, a-name, nothing}
 use Rattle.calculus.specs.Rules.{Context}
 use Rattle.calculus.specs.Infer.{infer}
 use Rattle.calculus.proofs.Coding.{size-positive}
@@ -30,6 +30,9 @@ use Rattle.inference.specs.Inference.{judge, Subject}
 use Rattle.inference.proofs.Rooms.{own-scope, deeper-scoped}
 use Rattle.inference.proofs.Types.{type-scoped, type-named}
 use Rattle.inference.proofs.Passing.{Part}
+use Rattle.book.specs.declared.Reader.{Reader}
+use Rattle.calculus.specs.Book.{most}
+use Rattle.calculus.proofs.Scoping.{named-more}
 
 -- A term with the node that is meant.
 unfoldable pub Headed : calculus.Meaning → Term → Type 0
@@ -41,9 +44,10 @@ Headed a-lam e = (a : Term) × (d : Term) × (e ≡ lam a d)
 Headed a-pi e = (a : Term) × (b : Term) × (e ≡ pi a b)
 Headed a-mu e = (a : Term) × (d : Term) × (e ≡ mu a d)
 Headed (a-variable i) e = e ≡ var i
+Headed (a-name i) e = e ≡ name i
 Headed nothing e = ⊥
 
-headed : (e : Term) (r : List ℕ) → Scoped deepest e → Named 0 e → Headed (meaning (getD (emit e r) 0 0)) e
+headed : (e : Term) (r : List ℕ) → Scoped deepest e → Named most e → Headed (meaning (getD (emit e r) 0 0)) e
 unfolding Headed emit meaning Scoped Named word Indexed
 headed (var i) r s n = subst (λ m. Headed m (var i)) (sym (meaning-word (a-variable i) (omega arith))) refl
 headed star r s n = refl
@@ -53,17 +57,17 @@ headed (pi a b) r s n = (a, b, refl)
 headed (castup a e) r s n = (a, e, refl)
 headed (castdown e) r s n = (e, refl)
 headed (mu a e) r s n = (a, e, refl)
-headed (name i) r s n = absurd (omega (arith, n))
+headed (name i) r s n = subst (λ m. Headed m (name i)) (sym (meaning-word (a-name i) n)) refl
 
 -- The first word of the words read, which the code found to mean `m`.
-pub subject-headed : {Γ : Context} {e : Term} {term sub places : List ℕ} {depth : ℕ} {r m : Meaning}
-    → Subject Γ e term sub places depth
+pub subject-headed : {book : List ℕ} {Γ : Context} {e : Term} {term sub places : List ℕ} {depth : ℕ} {r m : Meaning}
+    → Subject book Γ e term sub places depth
     → r ≡ m
     → meaning-of r ≡ meaning (getD sub 0 0)
     → Headed (meaning-of m) e
 subject-headed {e} S told means =
     subst (λ k. Headed k e) (ap (λ ws. meaning (getD ws 0 0)) (sym (S .begins)) ∙ sym means ∙ ap meaning-of told)
-    (headed e (S .rest) (deeper-scoped S e (own-scope S)) (S .named))
+    (headed e (S .rest) (deeper-scoped S e (own-scope S)) (named-more e (S .holds .few) (S .named)))
 
 -- A kept term begins with the same word.
 same-head : (e : Term) (k r : List ℕ) → getD (keep e k) 0 0 ≡ getD (emit e r) 0 0
@@ -92,15 +96,15 @@ lying-word τ m top after x l =
     ∙ same-head τ [] []
 
 -- The type that was found of a subterm: its first word says which node it is.
-pub type-headed : {Γ : Context} {e : Term} {term sub places : List ℕ} {depth : ℕ} (L p : ℕ) {places₀ work : List ℕ} {depth₀ top n m : ℕ} {after places′ : List ℕ} {k : calculus.Meaning}
-    → Subject Γ e term sub places depth
-    → (part : Part (judge L Γ p e) e places₀ depth₀ work top n m after places′)
+pub type-headed : (who : Reader) {book : List ℕ} {Γ : Context} {e : Term} {term sub places : List ℕ} {depth : ℕ} (L p : ℕ) {places₀ work : List ℕ} {depth₀ top n m : ℕ} {after places′ : List ℕ} {k : calculus.Meaning}
+    → Subject book Γ e term sub places depth
+    → (part : Part (judge who book L Γ p e) e places₀ depth₀ work top n m after places′)
     → k ≡ meaning (word-at after top)
     → Headed k (part .type)
-type-headed L p {top} {m} {after} S part w =
+type-headed who L p {top} {m} {after} S part w =
     let τ = part .type in
     subst (λ k. Headed k τ) (ap meaning (sym (lying-word τ m top after (part .lies) (part .long))) ∙ sym w)
-    (headed τ [] (deeper-scoped S τ (type-scoped S L p (part .found))) (type-named S L p (part .found)))
+    (headed τ [] (deeper-scoped S τ (type-scoped S who L p (part .found))) (named-more τ (S .holds .few) (type-named S who L p (part .found))))
 
 pub type-meaning : {x : Answer Term} {e τ : Term} {places : List ℕ} {depth : ℕ} {work : List ℕ} {top n m : ℕ} {after places′ : List ℕ}
     → (part : Part x e places depth work top n m after places′)
@@ -113,8 +117,8 @@ type-meaning {τ} {top} {m} {after} part x =
 other : (ks : List ℕ) (m : calculus.Meaning) (r : Meaning) → T (not (hasKey ks (index m))) → OneOf ks (tag r) → meaning-of r ≢ m
 other ks m r n h x = miss ks (tag r) (subst (λ k. T (not (hasKey ks k))) (sym (tag-index r ∙ ap index x)) n) h
 
-pub not-star : (r : Meaning) → OneOf (1 ∷ 2 ∷ 3 ∷ 4 ∷ 5 ∷ 6 ∷ 7 ∷ 8 ∷ []) (tag r) → meaning-of r ≢ a-star
-not-star r h = other (1 ∷ 2 ∷ 3 ∷ 4 ∷ 5 ∷ 6 ∷ 7 ∷ 8 ∷ []) a-star r tt h
+pub not-star : (r : Meaning) → OneOf (1 ∷ 2 ∷ 3 ∷ 4 ∷ 5 ∷ 6 ∷ 7 ∷ 8 ∷ 9 ∷ []) (tag r) → meaning-of r ≢ a-star
+not-star r h = other (1 ∷ 2 ∷ 3 ∷ 4 ∷ 5 ∷ 6 ∷ 7 ∷ 8 ∷ 9 ∷ []) a-star r tt h
 
-pub not-product : (r : Meaning) → OneOf (0 ∷ 1 ∷ 2 ∷ 3 ∷ 4 ∷ 5 ∷ 7 ∷ 8 ∷ []) (tag r) → meaning-of r ≢ a-pi
-not-product r h = other (0 ∷ 1 ∷ 2 ∷ 3 ∷ 4 ∷ 5 ∷ 7 ∷ 8 ∷ []) a-pi r tt h
+pub not-product : (r : Meaning) → OneOf (0 ∷ 1 ∷ 2 ∷ 3 ∷ 4 ∷ 5 ∷ 7 ∷ 8 ∷ 9 ∷ []) (tag r) → meaning-of r ≢ a-pi
+not-product r h = other (0 ∷ 1 ∷ 2 ∷ 3 ∷ 4 ∷ 5 ∷ 7 ∷ 8 ∷ 9 ∷ []) a-pi r tt h

@@ -17,9 +17,10 @@ use Rattle.term.proofs.Keeping.{kept-length, lies-taken, lies-one}
 use Rattle.kept.specs.declared.copying.Room.{Room}
 use Rattle.kept.specs.Writing.{Writes}
 use Rattle.kept.specs.Rewriting.{Argument, Subject}
-use Rattle.reduction.specs.Stepping.{HeldWithin}
-use Rattle.inference.specs.Moving.{CodesWithin, Codomain, HeldPair, held-room}
+use Rattle.inference.specs.Moving.{CodesWithin, Coded, Codomain, HeldPair, held-room, HeldWithin}
 use Rattle.inference.proofs.KeptTypes.{cut-lies, cut-size, written, lies-still}
+use Rattle.book.specs.Layout.{Holds, decode}
+use Rattle.reduction.specs.Stepping as over
 
 -- A kept term copied to the front.
 pub copied : {e out after : List ℕ} {r : Room} (t : Term)
@@ -37,15 +38,35 @@ pub front-cut : (held : List ℕ) {after : List ℕ} (t : Term) (count : ℕ)
     → take (2 * count) after ≡ kept t
 front-cut held {after} t count x room long = ap (λ n. take (2 * n) after) long ∙ written held 0 t x (omega arith)
 
-pub codes-size : {ws : List ℕ} {closed : Bool} (A : CodesWithin ws closed) → length ws ≡ size (A .term)
+-- The words of a term are as many as it has nodes.
+pub codes-size : {ws : List ℕ} {closed : Bool} (A : Coded ws closed) → length ws ≡ size (A .term)
 codes-size A = ap length (A .coded) ∙ words-length (A .term)
 
 -- The caller's own words, noted, are what a step asks for.
-pub noted-within : {ws slice : List ℕ} {closed : Bool} (A : CodesWithin ws closed)
-    → slice ≡ kept (A .term)
-    → HeldWithin slice closed
+pub noted-within : {book ws slice : List ℕ} {closed : Bool} (A : CodesWithin book ws closed)
+    → slice ≡ kept (A .codes .term)
+    → HeldWithin book slice closed
 noted-within A x =
-    record { term = A .term; coded = x; short = A .short; scoped = A .scoped; shut = A .shut }
+    let C = A .codes in
+    record { term = C .term; coded = x; short = C .short; scoped = C .scoped; named = A .named; shut = C .shut }
+
+-- And that is what a step asks for.
+pub held-over : {slice book : List ℕ} {closed : Bool} → Holds (decode book) book → HeldWithin book slice closed → over.HeldWithin book slice closed
+held-over {book = book} h H =
+    record {
+      lent = decode book;
+      holds = h;
+      term = H .term;
+      keeps =
+          record {
+            coded = H .coded;
+            has-words = worded deepest (H .term) (H .scoped) (omega (arith, H .short));
+            named = H .named;
+          };
+      short = H .short;
+      scoped = H .scoped;
+      shut = H .shut;
+    }
 
 -- So many nodes of the working slice, copied to the front, are cut out again.
 pub copied-cut : (work held : List ℕ) (from count : ℕ) {after : List ℕ} {r : Room}
@@ -73,7 +94,7 @@ module _ {work held copy : List ℕ} {from to : ℕ} {r : Room} (room : length h
   pub copy-long : length copy ≡ held-room
   copy-long = ap length (front (C .term) (C .coded) (C .extent)) ∙ length-sets held 0 (kept (C .term)) ∙ room
 
-  module _ {argument noted : List ℕ} {closed : Bool} (A : CodesWithin argument closed)
+  module _ {argument noted : List ℕ} {closed : Bool} (A : Coded argument closed)
       (n : (u : Term) → argument ≡ words u → noted ≡ sets copy 2048 (kept u)) where
     -- The codomain stays where it is when the argument is noted.
     pub codomain-held : (b : Term) → take (2 * size b) (drop (2 * from) work) ≡ kept b → to ≡ from + size b → Lies b noted 0

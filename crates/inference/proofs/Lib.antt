@@ -25,4 +25,5 @@ pub mod Applied
 pub mod Binding
 pub mod Products
 pub mod Variables
+pub mod Named
 pub mod Maps

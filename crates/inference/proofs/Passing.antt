@@ -19,6 +19,7 @@ use Rattle.term.specs.declared.refusal.Refusal.{Refusal}
 use Rattle.inference.specs.declared.Inferred.{Inferred}
 use Rattle.inference.specs.declared.Inferred.the-variants as inferred
 use Rattle.inference.specs.Inference.{judge, Infers, finds, refuses, TypeFound, inferred-of, star-typed}
+use Rattle.book.specs.declared.Reader.{Reader}
 
 -- A part `e` that is typed: the answer has its length and that of its type.
 pub record Part (x : Answer Term) (e : Term) (places : List ℕ) (depth : ℕ) (work : List ℕ) (top n m : ℕ) (after places′ : List ℕ) : Type 0 where
@@ -91,9 +92,9 @@ star-first (ok σ) p k = on (same σ star)
 star-first (refused s q) p k = refl
 
 -- A part that has to be of type star and is typed: it is of type star, and star is the answer.
-pub starred : (L : ℕ) (Γ : Context) (p : ℕ) (e : Term) {σ : Term} → star-typed L Γ p e ≡ ok σ → (judge L Γ p e ≡ ok star) × (σ ≡ star)
+pub starred : (who : Reader) (book : List ℕ) (L : ℕ) (Γ : Context) (p : ℕ) (e : Term) {σ : Term} → star-typed who book L Γ p e ≡ ok σ → (judge who book L Γ p e ≡ ok star) × (σ ≡ star)
 unfolding star-typed _>>=_ _>>_ require
-starred L Γ p e {σ} g = on (judge L Γ p e) g
+starred who book L Γ p e {σ} g = on (judge who book L Γ p e) g
   where
     tested : (τ : Term)
         → Dec (τ ≡ star)

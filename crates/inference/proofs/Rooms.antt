@@ -12,20 +12,19 @@ use Rattle.calculus.specs.Term.{Term, var, star, app, lam, pi, castup, castdown
 use Rattle.calculus.specs.Words.{words, levels, Scoped, deepest, Worded, longest}
 use Rattle.calculus.proofs.Coding.{worded}
 use Rattle.calculus.specs.Rules.{Context}
-use Rattle.calculus.proofs.Scoping.{scoped-more, step-scoped}
+use Rattle.calculus.proofs.Scoping.{scoped-more, step-scoped, Shut}
 use Rattle.kept.specs.Rewriting.{Fits}
 use Rattle.inference.specs.Inference.{Subject, Roomy}
-use Rattle.inference.specs.Moving.{CodesWithin}
+use Rattle.inference.specs.Moving.{Coded, CodesWithin, next-of}
 use Rattle.inference.proofs.Subjects.{subject-long}
 use Rattle.calculus.specs.Kinds.{Kind}
 use Rattle.calculus.specs.Step.{next}
-use Rattle.calculus.specs.Book.{bodies}
-use Rattle.calculus.specs.Growing.{nothing-added}
-use Rattle.calculus.proofs.Soundness.{sound}
 use Rattle.calculus.proofs.Stepping.{next-step}
 use Rattle.calculus.proofs.Found.{raise-scoped}
 use Rattle.kept.proofs.InPlace.{raise-size}
-use Rattle.reduction.specs.Stepping.{next-of}
+use Rattle.book.specs.declared.Reader.{Reader}
+use Rattle.book.specs.Layout.{sight, decode}
+use Rattle.book.proofs.Entries.{bodies-fitted, sight-bodies}
 
 levels-positive : (e : Term) → 1 ≤ levels e
 unfolding levels
@@ -43,7 +42,7 @@ pub castdown-levels : (e : Term) → levels e < levels (castdown e)
 unfolding levels
 castdown-levels e = omega arith
 
-module _ {Γ : Context} {e : Term} {term sub places : List ℕ} {depth : ℕ} (S : Subject Γ e term sub places depth) where
+module _ {book : List ℕ} {Γ : Context} {e : Term} {term sub places : List ℕ} {depth : ℕ} (S : Subject book Γ e term sub places depth) where
   -- There is a place for one annotation more.
   pub subject-shallow : depth < deepest
   subject-shallow = omega (arith, levels-positive e, S .deep)
@@ -67,15 +66,17 @@ module _ {Γ : Context} {e : Term} {term sub places : List ℕ} {depth : ℕ} (S
   subject-worded = worded deepest e (subject-fits .scoped) (omega (arith, subject-fits .short))
 
   -- Its next state, and it raised by one.
-  pub next-worded : {k : Kind} {x : Term} → next-of e ≡ next k x → size x ≤ longest → Worded x
-  next-worded {k} {x} h short =
-      let closed = sound nothing-added .closed .shut-bodies in
-      worded deepest x (step-scoped deepest closed (next-step (bodies []) e h .0) (subject-fits .scoped)) (omega (arith, short))
+  pub next-worded : (who : Reader) {k : Kind} {x : Term} → next-of who book e ≡ next k x → size x ≤ longest → Worded x
+  unfolding next-of
+  next-worded who {k} {x} h short =
+      let B = decode book in
+      let closed : Shut (sight who B) = λ i t q. bodies-fitted B (S .holds) i t (sight-bodies who B i t q) .0 in
+      worded deepest x (step-scoped deepest closed (next-step (sight who B) e h .0) (subject-fits .scoped)) (omega (arith, short))
 
   pub raised-worded : Worded (raise 1 0 e)
   raised-worded = worded (suc deepest) (raise 1 0 e) (raise-scoped deepest 0 e (subject-fits .scoped)) (omega (arith, raise-size 1 0 e, subject-fits .short))
 
-  pub subject-codes : {ws : List ℕ} (closed : Bool) → ws ≡ words e → (closed ≡ true → depth ≡ 0) → CodesWithin ws closed
+  pub subject-codes : {ws : List ℕ} (closed : Bool) → ws ≡ words e → (closed ≡ true → depth ≡ 0) → Coded ws closed
   subject-codes closed x h =
       record {
         term = e;
@@ -84,6 +85,10 @@ module _ {Γ : Context} {e : Term} {term sub places : List ℕ} {depth : ℕ} (S
         scoped = subject-fits .scoped;
         shut = λ c. closed-scoped e own-scope (h c);
       }
+
+  pub subject-within : {ws : List ℕ} (closed : Bool) → ws ≡ words e → (closed ≡ true → depth ≡ 0) → CodesWithin book ws closed
+  unfolding subject-codes
+  subject-within closed x h = record { codes = subject-codes closed x h; named = S .named }
 
 module _ {e : Term} {work : List ℕ} {top limit : ℕ} (R : Roomy e work top limit) where
   -- Two types fit.

@@ -11,8 +11,9 @@ use lib.ListN.{length, take, drop, getD, set, length-drop, length-set}
 use lib.Seq.{take-at, drop-at, drop-drop, take-take, take-set-le, getD-take, getD-set-same}
 use Rattle.calculus.specs.Term.{Term, star, castdown, size}
 use Rattle.calculus.specs.Words.{emit, words, levels, Scoped, Named, longest, deepest}
-use Rattle.calculus.specs.Book.{bodies}
-use Rattle.calculus.specs.Rules.{Context, WellFormed, env-var, _∣_∣_⊢_⦂_}
+use Rattle.calculus.specs.Rules.{Context}
+use Rattle.calculus.specs.Infer.{FittedContext}
+use Rattle.book.specs.Layout.{entries}
 use Rattle.calculus.proofs.Coding.{emit-append, emit-length, words-length, size-positive}
 use Rattle.term.proofs.Finding.{from-on}
 use Rattle.inference.specs.Inference.{Subject, Placed}
@@ -58,7 +59,7 @@ still depth place places before after x y =
     ∙ take-set-le depth before depth place (le-refl depth)
     ∙ x
 
-module _ {Γ : Context} {e : Term} {term sub places : List ℕ} {depth : ℕ} (S : Subject Γ e term sub places depth) where
+module _ {book : List ℕ} {Γ : Context} {e : Term} {term sub places : List ℕ} {depth : ℕ} (S : Subject book Γ e term sub places depth) where
   pub subject-long : size e ≤ length sub
   subject-long = omega (arith, ap length (S .begins), emit-length e (S .rest))
 
@@ -80,11 +81,11 @@ module _ {Γ : Context} {e : Term} {term sub places : List ℕ} {depth : ℕ} (S
       → depth′ ≡ length Γ′
       → length places′ ≡ deepest
       → Placed term Γ′ places′
-      → WellFormed [] (bodies []) Γ′
+      → FittedContext (entries book) Γ′
       → Scoped depth′ a
-      → Named 0 a
+      → Named (entries book) a
       → depth′ + levels a ≤ deepest
-      → Subject Γ′ a term (behind k sub) places′ depth′
+      → Subject book Γ′ a term (behind k sub) places′ depth′
   at-end k r h x d v p w s n l =
       record {
         rest = r;
@@ -99,7 +100,8 @@ module _ {Γ : Context} {e : Term} {term sub places : List ℕ} {depth : ℕ} (S
         around = d;
         wide = v;
         placed = p;
-        well-formed = w;
+        holds = S .holds;
+        fitted = w;
         scoped = s;
         named = n;
         deep = l;
@@ -109,7 +111,7 @@ module _ {Γ : Context} {e : Term} {term sub places : List ℕ} {depth : ℕ} (S
   pub replaced : {places′ : List ℕ}
       → take depth places′ ≡ take depth places
       → length places′ ≡ length places
-      → Subject Γ e term sub places′ depth
+      → Subject book Γ e term sub places′ depth
   replaced {places′} x l =
       record {
         rest = S .rest;
@@ -120,7 +122,8 @@ module _ {Γ : Context} {e : Term} {term sub places : List ℕ} {depth : ℕ} (S
         around = S .around;
         wide = l ∙ S .wide;
         placed = placed-kept term Γ places places′ depth (omega (arith, S .around)) x (S .placed);
-        well-formed = S .well-formed;
+        holds = S .holds;
+        fitted = S .fitted;
         scoped = S .scoped;
         named = S .named;
         deep = S .deep;
@@ -140,10 +143,10 @@ module _ {Γ : Context} {e : Term} {term sub places : List ℕ} {depth : ℕ} (S
     pub subject-parts : suc (size a + size b) ≤ length sub
     subject-parts = omega (arith, subject-long, two-size h)
 
-    pub first : Subject Γ a term (behind 1 sub) places depth
+    pub first : Subject book Γ a term (behind 1 sub) places depth
     first =
         at-end 1 (emit b (S .rest)) (omega (arith, subject-long, two-size h)) first-words (S .around) (S .wide) (S .placed)
-        (S .well-formed) (first-scoped h depth (S .scoped)) (parts-named h 0 (S .named) .0) (omega (arith, two-levels h, S .deep))
+        (S .fitted) (first-scoped h depth (S .scoped)) (parts-named h _ (S .named) .0) (omega (arith, two-levels h, S .deep))
 
     pub place-second : (from : ℕ) → from ≡ 1 + size a → length term - length (behind from sub) ≡ suc (length term - length sub) + size a
     place-second from x = omega (arith, further from (omega (arith, subject-long, two-size h)))
@@ -152,33 +155,32 @@ module _ {Γ : Context} {e : Term} {term sub places : List ℕ} {depth : ℕ} (S
   place-first = omega (arith, further 1 subject-some)
 
 -- The body of a down cast.
-pub inside : {Γ : Context} {e : Term} {term sub places : List ℕ} {depth : ℕ}
-    → Subject Γ (castdown e) term sub places depth
-    → Subject Γ e term (behind 1 sub) places depth
+pub inside : {book : List ℕ} {Γ : Context} {e : Term} {term sub places : List ℕ} {depth : ℕ}
+    → Subject book Γ (castdown e) term sub places depth
+    → Subject book Γ e term (behind 1 sub) places depth
 unfolding emit levels Scoped Named
 inside S =
-    at-end S 1 (S .rest) (subject-some S) (ap (drop 1) (S .begins)) (S .around) (S .wide) (S .placed) (S .well-formed) (S .scoped)
+    at-end S 1 (S .rest) (subject-some S) (ap (drop 1) (S .begins)) (S .around) (S .wide) (S .placed) (S .fitted) (S .scoped)
     (S .named) (omega (arith, S .deep))
 
-module _ {Γ : Context} {e a b : Term} {term sub places : List ℕ} {depth : ℕ} (S : Subject Γ e term sub places depth) where
-  pub second : (from : ℕ) → Two 0 e a b → from ≡ 1 + size a → Subject Γ b term (behind from sub) places depth
+module _ {book : List ℕ} {Γ : Context} {e a b : Term} {term sub places : List ℕ} {depth : ℕ} (S : Subject book Γ e term sub places depth) where
+  pub second : (from : ℕ) → Two 0 e a b → from ≡ 1 + size a → Subject book Γ b term (behind from sub) places depth
   second from h x =
       at-end S from (S .rest) (omega (arith, subject-long S, two-size h)) (ap (λ n. drop n sub) x ∙ second-words S h) (S .around)
-      (S .wide) (S .placed) (S .well-formed) (second-scoped h depth (S .scoped)) (parts-named h 0 (S .named) .1) (omega (arith, two-levels h, S .deep))
+      (S .wide) (S .placed) (S .fitted) (second-scoped h depth (S .scoped)) (parts-named h _ (S .named) .1) (omega (arith, two-levels h, S .deep))
 
   -- The same under the first part, whose place is written.
   pub under : (from place : ℕ)
       → Two 1 e a b
       → from ≡ 1 + size a
       → place ≡ length term - length sub + 1
-      → [] ∣ bodies [] ∣ Γ ⊢ a ⦂ star
-      → Subject (a ∷ Γ) b term (behind from sub) (set places depth place) (depth + 1)
-  unfolding Placed
-  under from place h x y t =
+      → Subject book (a ∷ Γ) b term (behind from sub) (set places depth place) (depth + 1)
+  unfolding Placed FittedContext
+  under from place h x y =
       at-end S from (S .rest) (omega (arith, subject-long S, two-size h)) (ap (λ n. drop n sub) x ∙ second-words S h)
       (omega (arith, S .around)) (length-set places depth place ∙ S .wide)
       ((emit b (S .rest), ap (λ n. drop n term) at-place ∙ begins), omega (arith, at-place, subject-long S, two-size h, S .within), others)
-      (env-var (S .well-formed) t) (rw add-one (under-scoped h depth (S .scoped))) (parts-named h 0 (S .named) .1) (omega (arith, two-levels h, S .deep))
+      ((own-first, parts-named h _ (S .named) .0), S .fitted) (rw add-one (under-scoped h depth (S .scoped))) (parts-named h _ (S .named) .1) (omega (arith, two-levels h, S .deep))
     where
       at-place : getD (set places depth place) (length Γ) 0 ≡ length term - length sub + 1
       at-place = ap (λ n. getD (set places depth place) n 0) (sym (S .around)) ∙ getD-set-same places depth place 0 (omega (arith, two-levels h, S .deep, S .wide)) ∙ y
@@ -186,21 +188,24 @@ module _ {Γ : Context} {e a b : Term} {term sub places : List ℕ} {depth : ℕ
       begins : drop (length term - length sub + 1) term ≡ emit a (emit b (S .rest))
       begins = sym (drop-drop 1 (length term - length sub) term) ∙ ap (drop 1) (sym (S .ends)) ∙ first-words S h
 
+      own-first : Scoped (length Γ) a
+      own-first = subst (λ n. Scoped n a) (S .around) (first-scoped h depth (S .scoped))
+
       others : Placed term Γ (set places depth place)
       others =
           placed-kept term Γ places (set places depth place) depth (omega (arith, S .around))
           (take-set-le depth places depth place (le-refl depth)) (S .placed)
 
 -- A part's own words.
-pub part-words : {Γ : Context} {e : Term} {term places : List ℕ} {depth : ℕ} (sub : List ℕ) (from n : ℕ)
-    → Subject Γ e term (behind from sub) places depth
+pub part-words : {book : List ℕ} {Γ : Context} {e : Term} {term places : List ℕ} {depth : ℕ} (sub : List ℕ) (from n : ℕ)
+    → Subject book Γ e term (behind from sub) places depth
     → n ≡ size e
     → take n (drop from sub) ≡ words e
-part-words {e} sub from n S x = begun-words e n (S .rest) (sym (from-on sub from) ∙ S .begins) x
+part-words {e = e} sub from n S x = begun-words e n (S .rest) (sym (from-on sub from) ∙ S .begins) x
 
 -- A subject by another name.
-pub renamed : {Γ : Context} {e e′ : Term} {term sub places : List ℕ} {depth : ℕ}
-    → Subject Γ e term sub places depth
+pub renamed : {book : List ℕ} {Γ : Context} {e e′ : Term} {term sub places : List ℕ} {depth : ℕ}
+    → Subject book Γ e term sub places depth
     → e ≡ e′
-    → Subject Γ e′ term sub places depth
-renamed {Γ} {term} {sub} {places} {depth} S x = subst (λ d. Subject Γ d term sub places depth) x S
+    → Subject book Γ e′ term sub places depth
+renamed {book} {Γ} {term = term} {sub} {places} {depth} S x = subst (λ d. Subject book Γ d term sub places depth) x S

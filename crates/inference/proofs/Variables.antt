@@ -8,12 +8,10 @@ use native.Mathlib.Omega.{arith}
 use lib.ListN.{length, drop, getD}
 use Rattle.calculus.specs.Term.{Term, var, star, size, raise}
 use Rattle.calculus.specs.Words.{emit, Scoped}
-use Rattle.calculus.specs.Book.{bodies}
-use Rattle.calculus.specs.Rules.{Context, WellFormed, env-var}
-use Rattle.calculus.specs.Infer.{infer, measure, annotation}
+use Rattle.calculus.specs.Rules.{Context}
+use Rattle.calculus.specs.Infer.{FittedContext, infer, measure, annotation}
 use Rattle.calculus.proofs.Bridge.{raise-moves, raise-more}
 use Rattle.calculus.proofs.Testing.{fitting, over}
-use Rattle.calculus.proofs.Types as types
 use Rattle.calculus.proofs.Scoping.{scoped-more}
 use Rattle.inference.specs.declared.Inferred.{Inferred}
 use Rattle.inference.specs.Inference.{judge, Subject, Placed, Annotation, Raises, Infers, refuses}
@@ -22,6 +20,7 @@ use Rattle.inference.proofs.Putting.{within-or-over}
 use Rattle.kept.proofs.InPlace.{raise-size}
 use Rattle.inference.proofs.Rooms.{subject-shallow}
 use Rattle.inference.proofs.Written.{written-type}
+use Rattle.book.specs.declared.Reader.{Reader}
 
 -- A variable's annotation as it stands, outside its own binder.
 unfoldable pub standing : Context → ℕ → Term
@@ -36,12 +35,12 @@ annotation-raised (τ ∷ Γ) zero h = refl
 annotation-raised (τ ∷ Γ) (suc i) h =
     ap (raise 1 0) (annotation-raised Γ i (le-of-suc-le-suc h)) ∙ raise-moves _ ∙ raise-more (suc i) (standing Γ i)
 
-standing-scoped : (Γ : Context) (i : ℕ) → WellFormed [] (bodies []) Γ → i < length Γ → Scoped (length Γ) (standing Γ i)
-unfolding standing
-standing-scoped [] i w h = absurd (omega arith)
-standing-scoped (τ ∷ Γ) zero (env-var w t) h = scoped-more τ (omega arith) (types.scoped t)
-standing-scoped (τ ∷ Γ) (suc i) (env-var w t) h =
-    scoped-more (standing Γ i) (omega arith) (standing-scoped Γ i w (le-of-suc-le-suc h))
+standing-scoped : (N : ℕ) (Γ : Context) (i : ℕ) → FittedContext N Γ → i < length Γ → Scoped (length Γ) (standing Γ i)
+unfolding standing FittedContext
+standing-scoped N [] i w h = absurd (omega arith)
+standing-scoped N (τ ∷ Γ) zero ((s, n), w) h = scoped-more τ (omega arith) s
+standing-scoped N (τ ∷ Γ) (suc i) (f, w) h =
+    scoped-more (standing Γ i) (omega arith) (standing-scoped N Γ i w (le-of-suc-le-suc h))
 
 standing-placed : (term : List ℕ) (Γ : Context) (places : List ℕ) (i from : ℕ)
     → i < length Γ
@@ -58,7 +57,7 @@ standing-placed term (τ ∷ Γ) places (suc i) from h p x =
     let z : suc (length Γ) - 1 - suc i ≡ length Γ - 1 - i = omega arith in
     standing-placed term Γ places i from (le-of-suc-le-suc h) (p .2) (x ∙ ap (λ k. getD places k 0) z)
 
-module _ {Γ : Context} {i : ℕ} {term sub places : List ℕ} {depth : ℕ} (S : Subject Γ (var i) term sub places depth) where
+module _ {book : List ℕ} {Γ : Context} {i : ℕ} {term sub places : List ℕ} {depth : ℕ} (S : Subject book Γ (var i) term sub places depth) where
   pub bound : i < depth
   unfolding Scoped
   bound = S .scoped
@@ -72,17 +71,17 @@ module _ {Γ : Context} {i : ℕ} {term sub places : List ℕ} {depth : ℕ} (S 
         begins = stands .0 .1;
         within = stands .1;
         short = S .short;
-        scoped = scoped-more (standing Γ i) (omega (arith, S .around, subject-shallow S)) (standing-scoped Γ i (S .well-formed) h);
+        scoped = scoped-more (standing Γ i) (omega (arith, S .around, subject-shallow S)) (standing-scoped _ Γ i (S .fitted) h);
         near = omega (arith, bound, subject-shallow S);
       }
 
   -- The raised annotation is the type.
-  pub infers-annotation : {L p : ℕ} {work : List ℕ} {top : ℕ} {r : Inferred} {after : List ℕ}
+  pub infers-annotation : (who : Reader) {L p : ℕ} {work : List ℕ} {top : ℕ} {r : Inferred} {after : List ℕ}
       → 2 * (top + L) ≤ length work
       → Raises (standing Γ i) i p L work top r after
-      → Infers (judge L Γ p (var i)) (var i) places depth work top r after places
+      → Infers (judge who book L Γ p (var i)) (var i) places depth work top r after places
   unfolding infer size
-  infers-annotation {L} {p} {work} room R =
+  infers-annotation who {L} {p} {work} room R =
       within-or-over (standing Γ i) L
       (λ h.
       found (ap (measure L p) same ∙ fitting {L = L} p type (omega (arith, long)))

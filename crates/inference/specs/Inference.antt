@@ -7,18 +7,20 @@ use lib.Seq.{sets}
 use Rattle.calculus.specs.Term.{Term, star, size, raise}
 use Rattle.calculus.specs.Answer.{Answer, ok, refused, _>>=_, _>>_, require, Reason, not-star, over-limit}
 use Rattle.calculus.specs.Words.{emit, levels, Scoped, Named, longest, deepest}
-use Rattle.calculus.specs.Book.{types, bodies}
-use Rattle.calculus.specs.Rules.{Context, WellFormed}
-use Rattle.calculus.specs.Infer.{infer, same}
+use Rattle.calculus.specs.Book.{types}
+use Rattle.calculus.specs.Rules.{Context}
+use Rattle.calculus.specs.Infer.{FittedContext, infer, same}
 use Rattle.term.specs.Kept.{kept}
-use Rattle.reduction.specs.Stepping.{next-of}
 use Rattle.term.specs.Reasons.{reason-of}
+use Rattle.book.specs.declared.Reader.{Reader}
+use Rattle.book.specs.Layout.{Holds, decode, entries}
+use Rattle.inference.specs.Moving.{next-of}
 use Rattle.inference.specs.declared.Inferred.{Inferred}
 use Rattle.inference.specs.declared.Inferred.the-variants as inferred
 
--- Inference over the empty book.
-abbrev pub judge : ℕ → Context → ℕ → Term → Answer Term
-judge = infer (types []) next-of
+-- Inference over the book that a slice spells, as its reader sees it.
+abbrev pub judge : Reader → List ℕ → ℕ → Context → ℕ → Term → Answer Term
+judge who book = infer (types (decode book)) (next-of who book)
 
 -- The annotations of Γ stand in the term at the places listed, outermost first.
 unfoldable pub Placed : List ℕ → Context → List ℕ → Type 0
@@ -28,8 +30,8 @@ Placed term (a ∷ Γ) places =
     × (getD places (length Γ) 0 ≤ length term)
     × Placed term Γ places
 
--- `sub`, the end of `term`, begins with `e`, which stands in the context Γ.
-pub record Subject (Γ : Context) (e : Term) (term sub places : List ℕ) (depth : ℕ) : Type 0 where
+-- `sub`, the end of `term`, begins with `e`, which stands in the context Γ. The book is held by its slice, and no other name occurs.
+pub record Subject (book : List ℕ) (Γ : Context) (e : Term) (term sub places : List ℕ) (depth : ℕ) : Type 0 where
   pub rest : List ℕ
   pub begins : sub ≡ emit e rest
   pub ends : sub ≡ drop (length term - length sub) term
@@ -38,9 +40,10 @@ pub record Subject (Γ : Context) (e : Term) (term sub places : List ℕ) (depth
   pub around : depth ≡ length Γ
   pub wide : length places ≡ deepest
   pub placed : Placed term Γ places
-  pub well-formed : WellFormed [] (bodies []) Γ
+  pub holds : Holds (decode book) book
+  pub fitted : FittedContext (entries book) Γ
   pub scoped : Scoped depth e
-  pub named : Named 0 e
+  pub named : Named (entries book) e
   pub deep : depth + levels e ≤ deepest
 
 -- A type for each level of `e`, and one more.
@@ -69,30 +72,30 @@ pub data Infers : Answer Term → Term → List ℕ → ℕ → List ℕ → ℕ
       → inferred-of r ≡ refused s p → Infers (refused s p) e places depth work top r after places′
 
 -- The type of a part that has to be star, else 10.
-unfoldable pub star-typed : ℕ → Context → ℕ → Term → Answer Term
-star-typed L Γ p e = do
-  σ ← judge L Γ p e
+unfoldable pub star-typed : Reader → List ℕ → ℕ → Context → ℕ → Term → Answer Term
+star-typed who book L Γ p e = do
+  σ ← judge who book L Γ p e
   require not-star p (same σ star)
   ok star
 
 -- What is asked of the arguments of a function that types nodes `c`, with one part and with two: that they stand for such a node in
 -- some context, and that there is room.
-abbrev pub Asks : (Term → Term) → List ℕ → List ℕ → List ℕ → ℕ → List ℕ → ℕ → ℕ → Type 0
-Asks c term sub places depth work top limit = (Γ : Context) × (e : Term) × Subject Γ (c e) term sub places depth × Roomy (c e) work top limit
+abbrev pub Asks : (Term → Term) → List ℕ → List ℕ → List ℕ → List ℕ → ℕ → List ℕ → ℕ → ℕ → Type 0
+Asks c book term sub places depth work top limit = (Γ : Context) × (e : Term) × Subject book Γ (c e) term sub places depth × Roomy (c e) work top limit
 
-abbrev pub Asks₂ : (Term → Term → Term) → List ℕ → List ℕ → List ℕ → ℕ → List ℕ → ℕ → ℕ → Type 0
-Asks₂ c term sub places depth work top limit =
-    (Γ : Context) × (a : Term) × (e : Term) × Subject Γ (c a e) term sub places depth × Roomy (c a e) work top limit
+abbrev pub Asks₂ : (Term → Term → Term) → List ℕ → List ℕ → List ℕ → List ℕ → ℕ → List ℕ → ℕ → ℕ → Type 0
+Asks₂ c book term sub places depth work top limit =
+    (Γ : Context) × (a : Term) × (e : Term) × Subject book Γ (c a e) term sub places depth × Roomy (c a e) work top limit
 
 -- What it then tells: whatever node and context they stand for, the answer is that of `judge` at the node's place.
-abbrev pub Tells : (ℕ → Context → ℕ → Term → Answer Term) → (Term → Term) → List ℕ → List ℕ → List ℕ → ℕ → List ℕ → ℕ → ℕ
+abbrev pub Tells : (ℕ → Context → ℕ → Term → Answer Term) → (Term → Term) → List ℕ → List ℕ → List ℕ → List ℕ → ℕ → List ℕ → ℕ → ℕ
     → Inferred → List ℕ → List ℕ → Type 0
-Tells judge c term sub places depth work top limit r after places′ = (Γ : Context) (e : Term) → Subject Γ (c e) term sub places depth
+Tells judge c book term sub places depth work top limit r after places′ = (Γ : Context) (e : Term) → Subject book Γ (c e) term sub places depth
     → Infers (judge limit Γ (length term - length sub) (c e)) (c e) places depth work top r after places′
 
-abbrev pub Tells₂ : (Term → Term → Term) → List ℕ → List ℕ → List ℕ → ℕ → List ℕ → ℕ → ℕ → Inferred → List ℕ → List ℕ → Type 0
-Tells₂ c term sub places depth work top limit r after places′ = (Γ : Context) (a e : Term) → Subject Γ (c a e) term sub places depth
-    → Infers (judge limit Γ (length term - length sub) (c a e)) (c a e) places depth work top r after places′
+abbrev pub Tells₂ : (Term → Term → Term) → Reader → List ℕ → List ℕ → List ℕ → List ℕ → ℕ → List ℕ → ℕ → ℕ → Inferred → List ℕ → List ℕ → Type 0
+Tells₂ c who book term sub places depth work top limit r after places′ = (Γ : Context) (a e : Term) → Subject book Γ (c a e) term sub places depth
+    → Infers (judge who book limit Γ (length term - length sub) (c a e)) (c a e) places depth work top r after places′
 
 -- The annotation `a` stands at `from`; all but its first `index` + 1 binders are around it.
 pub record Annotation (a : Term) (index : ℕ) (term : List ℕ) (from : ℕ) : Type 0 where
@@ -107,3 +110,8 @@ pub record Annotation (a : Term) (index : ℕ) (term : List ℕ) (from : ℕ) : 
 pub record Raises (a : Term) (index place limit : ℕ) (work : List ℕ) (top : ℕ) (r : Inferred) (after : List ℕ) : Type 0 where
   pub fits : size a ≤ limit → (r ≡ inferred.Typed 1 (size a)) × (after ≡ sets work (2 * top) (kept (raise (suc index) 0 a)))
   pub over : limit < size a → inferred-of r ≡ refused over-limit place
+
+-- The stored type τ is written at `top`, if it fits the limit.
+pub record Stores (τ : Term) (place limit : ℕ) (work : List ℕ) (top : ℕ) (r : Inferred) (after : List ℕ) : Type 0 where
+  pub fits : size τ ≤ limit → (r ≡ inferred.Typed 1 (size τ)) × (after ≡ sets work (2 * top) (kept τ))
+  pub over : limit < size τ → inferred-of r ≡ refused over-limit place

@@ -8,26 +8,46 @@ use mathlib.Core.Path.{_≡_}
 use lib.ListN.{length, take, drop}
 use lib.Seq.{sets}
 use Rattle.calculus.specs.Term.{Term, pi, size, substitute}
-use Rattle.calculus.specs.Words.{words, Scoped, longest, deepest}
+use Rattle.calculus.specs.Words.{words, Scoped, Named, longest, deepest}
 use Rattle.calculus.specs.Step as calculus
 use Rattle.term.specs.Kept.{Lies, kept}
+use Rattle.book.specs.declared.Reader.{Reader}
+use Rattle.book.specs.Layout.{sight, decode, entries}
 use Rattle.reduction.specs.declared.stepping.Kind.{Kind}
 use Rattle.reduction.specs.declared.stepping.Stepped.{Stepped}
 use Rattle.reduction.specs.declared.stepping.Stepped.the-variants as stepped
-use Rattle.reduction.specs.Stepping.{next-of, kind-of}
+use Rattle.reduction.specs.Stepping.{kind-of}
 use Rattle.inference.specs.declared.moving.Applied.{Applied}
 use Rattle.inference.specs.declared.moving.Applied.the-variants as applied
+
+-- The step of a term over the book that a slice spells, as its reader sees it.
+unfoldable pub next-of : Reader → List ℕ → Term → calculus.Next
+next-of who book = calculus.step (sight who (decode book))
 
 -- Room for two kept terms of 1,024 nodes.
 abbrev pub held-room : ℕ
 held-room = 4096
 
 -- The words are those of a term of at most 1,024 words, in a context of at most 64 annotations; of a closed term where `closed`.
-pub record CodesWithin (ws : List ℕ) (closed : Bool) : Type 0 where
+pub record Coded (ws : List ℕ) (closed : Bool) : Type 0 where
   pub term : Term
   pub coded : ws ≡ words term
   pub short : size term ≤ longest
   pub scoped : Scoped deepest term
+  pub shut : closed ≡ true → Scoped 0 term
+
+-- They are, and the term names definitions of the book alone.
+pub record CodesWithin (book ws : List ℕ) (closed : Bool) : Type 0 where
+  pub codes : Coded ws closed
+  pub named : Named (entries book) (codes .term)
+
+-- The slice is such a term, kept.
+pub record HeldWithin (book slice : List ℕ) (closed : Bool) : Type 0 where
+  pub term : Term
+  pub coded : slice ≡ kept term
+  pub short : size term ≤ longest
+  pub scoped : Scoped deepest term
+  pub named : Named (entries book) term
   pub shut : closed ≡ true → Scoped 0 term
 
 -- A codomain and the argument that is put in are held: the first at the front, the second from node 1,024 on, `count` nodes long.
@@ -84,9 +104,9 @@ Moves (calculus.next k x) work top limit r after =
     × (limit < size x → r ≡ stepped.Full)
 
 -- "the annotation steps, else 13; the stepped annotation is measured".
-abbrev pub StepsInto : Term → List ℕ → ℕ → ℕ → Stepped → List ℕ → Type 0
-StepsInto a = Moves (next-of a)
+abbrev pub StepsInto : Reader → List ℕ → Term → List ℕ → ℕ → ℕ → Stepped → List ℕ → Type 0
+StepsInto who book a = Moves (next-of who book a)
 
 -- "its type steps, else 13; the stepped type".
-abbrev pub StepsType : Term → List ℕ → ℕ → ℕ → Stepped → List ℕ → Type 0
-StepsType σ = Moves (next-of σ)
+abbrev pub StepsType : Reader → List ℕ → Term → List ℕ → ℕ → ℕ → Stepped → List ℕ → Type 0
+StepsType who book σ = Moves (next-of who book σ)

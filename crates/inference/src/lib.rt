@@ -6,6 +6,8 @@ use crate::moving::Applied;
 use crate::moving::apply;
 use crate::moving::step_into;
 use crate::moving::step_type;
+use book::Reader;
+use book::stored_type;
 use kept::keeping::narrow;
 use kept::keeping::note;
 use kept::rewriting::raise;
@@ -21,8 +23,10 @@ ghost use Prim.Native.Nat.{_+_, _*_, _≤_};
 ghost use lib.ListN.{length};
 ghost use Rattle.calculus.specs.Term.{Term, app, castdown, castup, lam, mu, pi};
 ghost use Rattle.calculus.specs.Words.{longest};
+ghost use Rattle.calculus.specs.Book.{Definition};
+ghost use Rattle.book.specs.Layout.{Defines};
 ghost use Rattle.inference.specs.Moving.{held-room};
-ghost use Rattle.inference.specs.Inference.{Annotation, Asks, Asks₂, Raises, Tells, Tells₂, judge, star-typed};
+ghost use Rattle.inference.specs.Inference.{Annotation, Asks, Asks₂, Raises, Stores, Tells, Tells₂, judge, star-typed};
 
 mod comparing;
 mod moving;
@@ -63,6 +67,26 @@ fn variable(
     Inferred::Typed(1, length)
 }
 
+// "Such a word has the stored type, raised by nothing" (document 02, 2.3).
+fn definition(
+    number: u16,
+    place: usize,
+    work: &mut [u16],
+    top: usize,
+    limit: usize,
+    book: &[u16],
+) -> Inferred
+    requires { ⌜ (2 * (top + limit) ≤ length (now work)) × (limit ≤ longest) × ((d : Definition) × Defines d number (now book)) ⌝ }
+    ensures { λ r. ⌜ ((d : Definition) → Defines d number (now (book .entry)) → Stores (d .type) place limit (now (work .entry)) top r (now (work .exit))) ⌝ }
+{
+    let stored = stored_type(book, wide(number));
+    if limit < stored.len() {
+        return refused(Reason::OverLimit, place);
+    }
+    note(stored, work, top);
+    Inferred::Typed(1, stored.len())
+}
+
 // "Application: function; its type is a product, else 11; argument; its type equals the domain, else 12; the codomain with the
 // argument put in."
 fn application(
@@ -74,13 +98,26 @@ fn application(
     top: usize,
     limit: usize,
     held: &mut [u16],
+    book: &[u16],
+    reader: Reader,
 ) -> Inferred
     requires { ⌜ length (now held) ≡ held-room ⌝ }
-    requires { ⌜ Asks₂ app (now term) (now sub) (now context) depth (now work) top limit ⌝ }
-    ensures { λ r. ⌜ Tells₂ app (now (term .entry)) (now (sub .entry)) (now (context .entry)) depth (now (work .entry)) top limit r (now (work .exit)) (now (context .exit)) ⌝ }
+    requires { ⌜ Asks₂ app (now book) (now term) (now sub) (now context) depth (now work) top limit ⌝ }
+    ensures { λ r. ⌜ Tells₂ app reader (now (book .entry)) (now (term .entry)) (now (sub .entry)) (now (context .entry)) depth (now (work .entry)) top limit r (now (work .exit)) (now (context .exit)) ⌝ }
 {
     let place = term.len() - sub.len();
-    let function = infer(term, &sub[1..], context, depth, work, top, limit, held);
+    let function = infer(
+        term,
+        &sub[1..],
+        context,
+        depth,
+        work,
+        top,
+        limit,
+        held,
+        book,
+        reader,
+    );
     let Inferred::Typed(read, length) = function else {
         return function;
     };
@@ -89,7 +126,18 @@ fn application(
     };
     let from = 1 + read;
     let next = top + length;
-    let argument = infer(term, &sub[from..], context, depth, work, next, limit, held);
+    let argument = infer(
+        term,
+        &sub[from..],
+        context,
+        depth,
+        work,
+        next,
+        limit,
+        held,
+        book,
+        reader,
+    );
     let Inferred::Typed(more, own) = argument else {
         return argument;
     };
@@ -120,12 +168,25 @@ fn star_part(
     top: usize,
     limit: usize,
     held: &mut [u16],
+    book: &[u16],
+    reader: Reader,
 ) -> Inferred
     requires { ⌜ length (now held) ≡ held-room ⌝ }
-    requires { ⌜ Asks (λ e. e) (now term) (now sub) (now context) depth (now work) top limit ⌝ }
-    ensures { λ r. ⌜ Tells star-typed (λ e. e) (now (term .entry)) (now (sub .entry)) (now (context .entry)) depth (now (work .entry)) top limit r (now (work .exit)) (now (context .exit)) ⌝ }
+    requires { ⌜ Asks (λ e. e) (now book) (now term) (now sub) (now context) depth (now work) top limit ⌝ }
+    ensures { λ r. ⌜ Tells (star-typed reader (now (book .entry))) (λ e. e) (now (book .entry)) (now (term .entry)) (now (sub .entry)) (now (context .entry)) depth (now (work .entry)) top limit r (now (work .exit)) (now (context .exit)) ⌝ }
 {
-    let part = infer(term, sub, context, depth, work, top, limit, held);
+    let part = infer(
+        term,
+        sub,
+        context,
+        depth,
+        work,
+        top,
+        limit,
+        held,
+        book,
+        reader,
+    );
     let Inferred::Typed(_, _) = part else {
         return part;
     };
@@ -146,13 +207,26 @@ fn abstraction(
     top: usize,
     limit: usize,
     held: &mut [u16],
+    book: &[u16],
+    reader: Reader,
 ) -> Inferred
     requires { ⌜ length (now held) ≡ held-room ⌝ }
-    requires { ⌜ Asks₂ lam (now term) (now sub) (now context) depth (now work) top limit ⌝ }
-    ensures { λ r. ⌜ Tells₂ lam (now (term .entry)) (now (sub .entry)) (now (context .entry)) depth (now (work .entry)) top limit r (now (work .exit)) (now (context .exit)) ⌝ }
+    requires { ⌜ Asks₂ lam (now book) (now term) (now sub) (now context) depth (now work) top limit ⌝ }
+    ensures { λ r. ⌜ Tells₂ lam reader (now (book .entry)) (now (term .entry)) (now (sub .entry)) (now (context .entry)) depth (now (work .entry)) top limit r (now (work .exit)) (now (context .exit)) ⌝ }
 {
     let place = term.len() - sub.len();
-    let annotation = star_part(term, &sub[1..], context, depth, work, top, limit, held);
+    let annotation = star_part(
+        term,
+        &sub[1..],
+        context,
+        depth,
+        work,
+        top,
+        limit,
+        held,
+        book,
+        reader,
+    );
     let Inferred::Typed(read, _) = annotation else {
         return annotation;
     };
@@ -168,6 +242,8 @@ fn abstraction(
         top + skip,
         limit,
         held,
+        book,
+        reader,
     );
     let Inferred::Typed(more, length) = body else {
         return body;
@@ -191,13 +267,26 @@ fn product(
     top: usize,
     limit: usize,
     held: &mut [u16],
+    book: &[u16],
+    reader: Reader,
 ) -> Inferred
     requires { ⌜ length (now held) ≡ held-room ⌝ }
-    requires { ⌜ Asks₂ pi (now term) (now sub) (now context) depth (now work) top limit ⌝ }
-    ensures { λ r. ⌜ Tells₂ pi (now (term .entry)) (now (sub .entry)) (now (context .entry)) depth (now (work .entry)) top limit r (now (work .exit)) (now (context .exit)) ⌝ }
+    requires { ⌜ Asks₂ pi (now book) (now term) (now sub) (now context) depth (now work) top limit ⌝ }
+    ensures { λ r. ⌜ Tells₂ pi reader (now (book .entry)) (now (term .entry)) (now (sub .entry)) (now (context .entry)) depth (now (work .entry)) top limit r (now (work .exit)) (now (context .exit)) ⌝ }
 {
     let place = term.len() - sub.len();
-    let domain = star_part(term, &sub[1..], context, depth, work, top, limit, held);
+    let domain = star_part(
+        term,
+        &sub[1..],
+        context,
+        depth,
+        work,
+        top,
+        limit,
+        held,
+        book,
+        reader,
+    );
     let Inferred::Typed(read, _) = domain else {
         return domain;
     };
@@ -212,6 +301,8 @@ fn product(
         top,
         limit,
         held,
+        book,
+        reader,
     );
     let Inferred::Typed(more, _) = codomain else {
         return codomain;
@@ -230,23 +321,56 @@ fn cast_up(
     top: usize,
     limit: usize,
     held: &mut [u16],
+    book: &[u16],
+    reader: Reader,
 ) -> Inferred
     requires { ⌜ length (now held) ≡ held-room ⌝ }
-    requires { ⌜ Asks₂ castup (now term) (now sub) (now context) depth (now work) top limit ⌝ }
-    ensures { λ r. ⌜ Tells₂ castup (now (term .entry)) (now (sub .entry)) (now (context .entry)) depth (now (work .entry)) top limit r (now (work .exit)) (now (context .exit)) ⌝ }
+    requires { ⌜ Asks₂ castup (now book) (now term) (now sub) (now context) depth (now work) top limit ⌝ }
+    ensures { λ r. ⌜ Tells₂ castup reader (now (book .entry)) (now (term .entry)) (now (sub .entry)) (now (context .entry)) depth (now (work .entry)) top limit r (now (work .exit)) (now (context .exit)) ⌝ }
 {
     let place = term.len() - sub.len();
-    let annotation = star_part(term, &sub[1..], context, depth, work, top, limit, held);
+    let annotation = star_part(
+        term,
+        &sub[1..],
+        context,
+        depth,
+        work,
+        top,
+        limit,
+        held,
+        book,
+        reader,
+    );
     let Inferred::Typed(read, _) = annotation else {
         return annotation;
     };
     let front = 1 + read;
-    let body = infer(term, &sub[front..], context, depth, work, top, limit, held);
+    let body = infer(
+        term,
+        &sub[front..],
+        context,
+        depth,
+        work,
+        top,
+        limit,
+        held,
+        book,
+        reader,
+    );
     let Inferred::Typed(more, length) = body else {
         return body;
     };
     let next = top + length;
-    let count = match step_into(&sub[1..front], depth == 0, work, next, limit, held) {
+    let count = match step_into(
+        &sub[1..front],
+        depth == 0,
+        work,
+        next,
+        limit,
+        held,
+        book,
+        reader,
+    ) {
         Stepped::Value | Stepped::Stuck => {
             return refused(Reason::NoStep, place);
         }
@@ -276,17 +400,30 @@ fn cast_down(
     top: usize,
     limit: usize,
     held: &mut [u16],
+    book: &[u16],
+    reader: Reader,
 ) -> Inferred
     requires { ⌜ length (now held) ≡ held-room ⌝ }
-    requires { ⌜ Asks castdown (now term) (now sub) (now context) depth (now work) top limit ⌝ }
-    ensures { λ r. ⌜ Tells judge castdown (now (term .entry)) (now (sub .entry)) (now (context .entry)) depth (now (work .entry)) top limit r (now (work .exit)) (now (context .exit)) ⌝ }
+    requires { ⌜ Asks castdown (now book) (now term) (now sub) (now context) depth (now work) top limit ⌝ }
+    ensures { λ r. ⌜ Tells (judge reader (now (book .entry))) castdown (now (book .entry)) (now (term .entry)) (now (sub .entry)) (now (context .entry)) depth (now (work .entry)) top limit r (now (work .exit)) (now (context .exit)) ⌝ }
 {
     let place = term.len() - sub.len();
-    let body = infer(term, &sub[1..], context, depth, work, top, limit, held);
+    let body = infer(
+        term,
+        &sub[1..],
+        context,
+        depth,
+        work,
+        top,
+        limit,
+        held,
+        book,
+        reader,
+    );
     let Inferred::Typed(read, length) = body else {
         return body;
     };
-    match step_type(depth == 0, work, top, length, limit, held) {
+    match step_type(depth == 0, work, top, length, limit, held, book, reader) {
         Stepped::Value | Stepped::Stuck => refused(Reason::NoStep, place),
         Stepped::Full => refused(Reason::OverLimit, place),
         Stepped::To(_, count) => Inferred::Typed(1 + read, count),
@@ -303,13 +440,26 @@ fn recursion(
     top: usize,
     limit: usize,
     held: &mut [u16],
+    book: &[u16],
+    reader: Reader,
 ) -> Inferred
     requires { ⌜ length (now held) ≡ held-room ⌝ }
-    requires { ⌜ Asks₂ mu (now term) (now sub) (now context) depth (now work) top limit ⌝ }
-    ensures { λ r. ⌜ Tells₂ mu (now (term .entry)) (now (sub .entry)) (now (context .entry)) depth (now (work .entry)) top limit r (now (work .exit)) (now (context .exit)) ⌝ }
+    requires { ⌜ Asks₂ mu (now book) (now term) (now sub) (now context) depth (now work) top limit ⌝ }
+    ensures { λ r. ⌜ Tells₂ mu reader (now (book .entry)) (now (term .entry)) (now (sub .entry)) (now (context .entry)) depth (now (work .entry)) top limit r (now (work .exit)) (now (context .exit)) ⌝ }
 {
     let place = term.len() - sub.len();
-    let annotation = star_part(term, &sub[1..], context, depth, work, top, limit, held);
+    let annotation = star_part(
+        term,
+        &sub[1..],
+        context,
+        depth,
+        work,
+        top,
+        limit,
+        held,
+        book,
+        reader,
+    );
     let Inferred::Typed(read, _) = annotation else {
         return annotation;
     };
@@ -324,6 +474,8 @@ fn recursion(
         top,
         limit,
         held,
+        book,
+        reader,
     );
     let Inferred::Typed(more, length) = body else {
         return body;
@@ -353,10 +505,12 @@ pub fn infer(
     top: usize,
     limit: usize,
     held: &mut [u16],
+    book: &[u16],
+    reader: Reader,
 ) -> Inferred
     requires { ⌜ length (now held) ≡ held-room ⌝ }
-    requires { ⌜ Asks (λ e. e) (now term) (now sub) (now context) depth (now work) top limit ⌝ }
-    ensures { λ r. ⌜ Tells judge (λ e. e) (now (term .entry)) (now (sub .entry)) (now (context .entry)) depth (now (work .entry)) top limit r (now (work .exit)) (now (context .exit)) ⌝ }
+    requires { ⌜ Asks (λ e. e) (now book) (now term) (now sub) (now context) depth (now work) top limit ⌝ }
+    ensures { λ r. ⌜ Tells (judge reader (now (book .entry))) (λ e. e) (now (book .entry)) (now (term .entry)) (now (sub .entry)) (now (context .entry)) depth (now (work .entry)) top limit r (now (work .exit)) (now (context .exit)) ⌝ }
 {
     let place = term.len() - sub.len();
     match classify(sub[0]) {
@@ -370,12 +524,79 @@ pub fn infer(
             let from = wide(context[binder]);
             variable(term, place, from, index, work, top, limit)
         }
-        Meaning::Application => application(term, sub, context, depth, work, top, limit, held),
-        Meaning::Abstraction => abstraction(term, sub, context, depth, work, top, limit, held),
-        Meaning::Product => product(term, sub, context, depth, work, top, limit, held),
-        Meaning::CastUp => cast_up(term, sub, context, depth, work, top, limit, held),
-        Meaning::CastDown => cast_down(term, sub, context, depth, work, top, limit, held),
-        Meaning::Recursion => recursion(term, sub, context, depth, work, top, limit, held),
+        Meaning::Application => application(
+            term,
+            sub,
+            context,
+            depth,
+            work,
+            top,
+            limit,
+            held,
+            book,
+            reader,
+        ),
+        Meaning::Abstraction => abstraction(
+            term,
+            sub,
+            context,
+            depth,
+            work,
+            top,
+            limit,
+            held,
+            book,
+            reader,
+        ),
+        Meaning::Product => product(
+            term,
+            sub,
+            context,
+            depth,
+            work,
+            top,
+            limit,
+            held,
+            book,
+            reader,
+        ),
+        Meaning::CastUp => cast_up(
+            term,
+            sub,
+            context,
+            depth,
+            work,
+            top,
+            limit,
+            held,
+            book,
+            reader,
+        ),
+        Meaning::CastDown => cast_down(
+            term,
+            sub,
+            context,
+            depth,
+            work,
+            top,
+            limit,
+            held,
+            book,
+            reader,
+        ),
+        Meaning::Recursion => recursion(
+            term,
+            sub,
+            context,
+            depth,
+            work,
+            top,
+            limit,
+            held,
+            book,
+            reader,
+        ),
+        Meaning::Name(number) => definition(number, place, work, top, limit, book),
         Meaning::Nothing => refused(Reason::NoMeaning, place),
     }
 }

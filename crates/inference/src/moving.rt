@@ -1,6 +1,7 @@
 // Types moved within the working slice: what is read and what is written cannot lie in one slice, so that a type is copied into `held`
 // first; and a part of the caller's own words is noted there, so that all that is moved is kept.
 use crate::comparing::same;
+use book::Reader;
 use kept::copying::copy;
 use kept::keeping::length_at;
 use kept::keeping::note;
@@ -12,10 +13,10 @@ ghost use mathlib.Core.Path.{_≡_};
 ghost use Prim.Native.Nat.{_+_, _*_, _≤_};
 ghost use lib.ListN.{drop, length, take};
 ghost use Rattle.calculus.specs.Term.{Term, pi, size};
-ghost use Rattle.calculus.specs.Words.{Worded, longest, words};
+ghost use Rattle.calculus.specs.Words.{Named, Worded, longest, words};
+ghost use Rattle.book.specs.Layout.{Holds, entries, decode};
 ghost use Rattle.term.specs.Kept.{Lies, kept};
-ghost use Rattle.reduction.specs.Stepping.{HeldWithin};
-ghost use Rattle.inference.specs.Moving.{Applies, CodesWithin, Codomain, HeldPair, Product, Puts, StepsInto, StepsType, held-room};
+ghost use Rattle.inference.specs.Moving.{Applies, Coded, CodesWithin, Codomain, HeldPair, HeldWithin, Product, Puts, StepsInto, StepsType, held-room};
 
 // What an application of a product answers.
 pub(crate) enum Applied {
@@ -65,7 +66,7 @@ fn put_in(
     held: &mut [u16],
 ) -> Applied
     requires { ⌜ length (now held) ≡ held-room ⌝ }
-    requires { ⌜ (2 * (top + limit) ≤ length (now work)) × (limit ≤ longest) × Codomain (now work) codomain next × CodesWithin (now argument) closed ⌝ }
+    requires { ⌜ (2 * (top + limit) ≤ length (now work)) × (limit ≤ longest) × Codomain (now work) codomain next × Coded (now argument) closed ⌝ }
     ensures { λ r. ⌜ ((b u : Term) → take (2 * size b) (drop (2 * codomain) (now (work .entry))) ≡ kept b → Worded b → next ≡ codomain + size b → now (argument .entry) ≡ words u → Worded u → Puts b u (now (work .entry)) top limit r (now (work .exit))) ⌝ }
 {
     copy(&work[2 * codomain..2 * next], held, 0);
@@ -86,7 +87,7 @@ pub(crate) fn apply(
     held: &mut [u16],
 ) -> Applied
     requires { ⌜ length (now held) ≡ held-room ⌝ }
-    requires { ⌜ (2 * (top + limit) ≤ length (now work)) × (limit ≤ longest) × (2 * (top + count + own) ≤ length (now work)) × Product (take (2 * count) (drop (2 * top) (now work))) × CodesWithin (now argument) closed ⌝ }
+    requires { ⌜ (2 * (top + limit) ≤ length (now work)) × (limit ≤ longest) × (2 * (top + count + own) ≤ length (now work)) × Product (take (2 * count) (drop (2 * top) (now work))) × Coded (now argument) closed ⌝ }
     ensures { λ r. ⌜ ((a b u σ : Term) → take (2 * count) (drop (2 * top) (now (work .entry))) ≡ kept (pi a b) → Worded (pi a b) → now (argument .entry) ≡ words u → Worded u → take (2 * own) (drop (2 * (top + count)) (now (work .entry))) ≡ kept σ → Worded σ → Applies a b u σ (now (work .entry)) top limit r (now (work .exit))) ⌝ }
 {
     let domain = top + 1;
@@ -100,12 +101,20 @@ pub(crate) fn apply(
 }
 
 // The next state of a kept one, written at `top` within the limit.
-fn step_held(state: &[u16], closed: bool, work: &mut [u16], top: usize, limit: usize) -> Stepped
-    requires { ⌜ (2 * (top + limit) ≤ length (now work)) × (limit ≤ longest) × HeldWithin (now state) closed ⌝ }
-    ensures { λ r. ⌜ ((b : Term) → now (state .entry) ≡ kept b → Worded b → StepsType b (now (work .entry)) top limit r (now (work .exit))) ⌝ }
+fn step_held(
+    state: &[u16],
+    closed: bool,
+    work: &mut [u16],
+    top: usize,
+    limit: usize,
+    book: &[u16],
+    reader: Reader,
+) -> Stepped
+    requires { ⌜ (2 * (top + limit) ≤ length (now work)) × (limit ≤ longest) × Holds (decode (now book)) (now book) × HeldWithin (now book) (now state) closed ⌝ }
+    ensures { λ r. ⌜ ((b : Term) → now (state .entry) ≡ kept b → Worded b → Named (entries (now (book .entry))) b → StepsType reader (now (book .entry)) b (now (work .entry)) top limit r (now (work .exit))) ⌝ }
 {
     let end = top + limit;
-    step(state, closed, &mut work[2 * top..2 * end])
+    step(state, closed, &mut work[2 * top..2 * end], book, reader)
 }
 
 // The next state of a part of the caller's own words, written at `top` within the limit.
@@ -116,14 +125,16 @@ pub(crate) fn step_into(
     top: usize,
     limit: usize,
     held: &mut [u16],
+    book: &[u16],
+    reader: Reader,
 ) -> Stepped
     requires { ⌜ length (now held) ≡ held-room ⌝ }
-    requires { ⌜ (2 * (top + limit) ≤ length (now work)) × (limit ≤ longest) × CodesWithin (now state) closed ⌝ }
-    ensures { λ r. ⌜ ((b : Term) → now (state .entry) ≡ words b → Worded b → StepsInto b (now (work .entry)) top limit r (now (work .exit))) ⌝ }
+    requires { ⌜ (2 * (top + limit) ≤ length (now work)) × (limit ≤ longest) × Holds (decode (now book)) (now book) × CodesWithin (now book) (now state) closed ⌝ }
+    ensures { λ r. ⌜ ((b : Term) → now (state .entry) ≡ words b → Worded b → Named (entries (now (book .entry))) b → StepsInto reader (now (book .entry)) b (now (work .entry)) top limit r (now (work .exit))) ⌝ }
 {
     note(state, held, 0);
     let count = state.len();
-    step_held(&held[..2 * count], closed, work, top, limit)
+    step_held(&held[..2 * count], closed, work, top, limit, book, reader)
 }
 
 // The type at `top`, `count` nodes long, moved by one step within the limit.
@@ -134,12 +145,14 @@ pub(crate) fn step_type(
     count: usize,
     limit: usize,
     held: &mut [u16],
+    book: &[u16],
+    reader: Reader,
 ) -> Stepped
     requires { ⌜ length (now held) ≡ held-room ⌝ }
-    requires { ⌜ (2 * (top + limit) ≤ length (now work)) × (limit ≤ longest) × (2 * (top + count) ≤ length (now work)) × HeldWithin (take (2 * count) (drop (2 * top) (now work))) closed ⌝ }
-    ensures { λ r. ⌜ ((b : Term) → take (2 * count) (drop (2 * top) (now (work .entry))) ≡ kept b → Worded b → StepsType b (now (work .entry)) top limit r (now (work .exit))) ⌝ }
+    requires { ⌜ (2 * (top + limit) ≤ length (now work)) × (limit ≤ longest) × (2 * (top + count) ≤ length (now work)) × Holds (decode (now book)) (now book) × HeldWithin (now book) (take (2 * count) (drop (2 * top) (now work))) closed ⌝ }
+    ensures { λ r. ⌜ ((b : Term) → take (2 * count) (drop (2 * top) (now (work .entry))) ≡ kept b → Worded b → Named (entries (now (book .entry))) b → StepsType reader (now (book .entry)) b (now (work .entry)) top limit r (now (work .exit))) ⌝ }
 {
     let end = top + count;
     copy(&work[2 * top..2 * end], held, 0);
-    step_held(&held[..2 * count], closed, work, top, limit)
+    step_held(&held[..2 * count], closed, work, top, limit, book, reader)
 }

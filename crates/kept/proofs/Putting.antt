@@ -4,6 +4,7 @@ use Prim.Native.Nat.{ℕ, _+_, _*_, _-_, _≤_, _<_}
 use mathlib.Core.Bool.{true≢false}
 use mathlib.Core.List.{List, [], _∷_, _++_}
 use mathlib.Core.Path.{_≡_, refl, sym, ap, ap₂, _∙_}
+use native.Mathlib.Decide.{decLe}
 use native.Mathlib.Omega.{arith}
 use borrow.Author.Tests.{lt-ltb, le-ltb, eq-eqb, ne-eqb}
 use lib.Dec.{ltb→lt}
@@ -11,7 +12,7 @@ use lib.ListN.{length, take, drop, getD, length-append, length-take}
 use types.Run.{OneOf}
 use Rattle.calculus.specs.Term.{Term, var, star, castdown, name, size, raise, substitute}
 use Rattle.calculus.specs.Words.{Scoped, Worded}
-use Rattle.calculus.specs.Meaning.{a-variable, binds, meaning}
+use Rattle.calculus.specs.Meaning.{a-variable, a-name, binds, meaning}
 use Rattle.calculus.specs.Scan.{bound, means}
 use Rattle.calculus.proofs.Bridge.{raise-none}
 use Rattle.calculus.proofs.Coding.{size-positive}
@@ -24,7 +25,7 @@ use Rattle.term.proofs.Nodes.{Two, View, a-variable as a-var, a-star, a-name, o
 use Rattle.term.proofs.Nodes.{substitute-two, scoped-two, binds-two, word-two}
 use Rattle.term.proofs.Keeping.{kept-length, lies-taken, lies-word, lies-castdown, lies-star, lies-variable, lies-name}
 use Rattle.term.proofs.Visits.{tag, no-variable}
-use Rattle.term.proofs.Words.{beyond, variable, variable-index}
+use Rattle.term.proofs.Words.{named, beyond, variable, variable-index}
 use Rattle.kept.specs.Rewriting.{Subject, Surveyed}
 use Rattle.kept.proofs.Clear.{Built, of-variable, of-star, of-name, of-one, of-two, built}
 use Rattle.kept.proofs.Clear.{subject-first, subject-second, subject-body}
@@ -99,16 +100,22 @@ part-taken {e} {slice} {n} {m} l long =
 
 -- The index of a word that means a variable is below 2,032, since the words from 2,048 on mean none.
 pub index-small : (w i : ℕ) → a-variable i ≡ meaning w → i < 2032
-unfolding means
 index-small w i m = omega (arith, never, variable-index w i m)
   where
+    no-name : (j : ℕ) → a-variable i ≡ a-name j → ⊥
+    no-name j e = absurd (true≢false (cc e))
+
+    on : 2048 ≤ w → Dec (2080 ≤ w) → ⊥
+    on h (yes l) = absurd (true≢false (cc (m ∙ beyond w l)))
+    on h (no l) = no-name (w - 2048) (m ∙ named w h (omega arith))
+
     never : 2048 ≤ w → ⊥
-    never h = true≢false (ap means (m ∙ beyond w h))
+    never h = on h (decLe 2080 w)
 
 -- A word that means no variable is below 16 or from 2,048 on, since those between are variables.
 pub other-word : (w : ℕ) (m : Meaning)
     → meaning-of m ≡ meaning w
-    → OneOf (0 ∷ 1 ∷ 2 ∷ 3 ∷ 4 ∷ 5 ∷ 6 ∷ 8 ∷ []) (tag m)
+    → OneOf (0 ∷ 1 ∷ 2 ∷ 3 ∷ 4 ∷ 5 ∷ 6 ∷ 8 ∷ 9 ∷ []) (tag m)
     → 16 ≤ w
     → 2048 ≤ w
 unfolding bound

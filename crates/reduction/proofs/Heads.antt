@@ -1,33 +1,53 @@
--- The redex by the words alone. The down casts and applications that kept words begin with are counted; the kind of the next
--- node's word and of the one before it decide. By induction on the term: one frame more moves the node by one, and where the part
--- is no frame itself the two nodes at its front are those that decide. It goes over the words of the nodes, without the lengths.
+-- The redex by the words alone. The down casts and applications that kept words begin with are counted; what the next node's word means
+-- and the kind of the one before it decide. By induction on the term: one frame more moves the node by one, and where the part is no
+-- frame itself the two nodes at its front are those that decide. It goes over the words of the nodes, without the lengths.
 use Prim.Native.Nat.{ℕ, zero, suc, pred, _+_, _*_, _≤_, _<_}
-use mathlib.Core.Bool.{Bool, true, false, cond}
+use mathlib.Core.Bool.{Bool, true, false, cond, true≢false}
 use mathlib.Core.List.{List, [], _∷_, map}
+use mathlib.Core.Option.{Option, none, some}
 use mathlib.Core.Path.{_≡_, refl, sym, ap, _∙_}
 use native.Mathlib.Omega.{arith}
 use lib.Dec.{eqb}
 use lib.ListN.{length, getD, drop, List·getD-map}
 use lib.Seq.{drop-cons}
 use Rattle.calculus.specs.Term.{Term, var, star, app, lam, pi, castup, castdown, mu, name, size}
-use Rattle.calculus.specs.Meaning.{meaning}
-use Rattle.calculus.proofs.Meanings.{from-seven}
+use Rattle.calculus.specs.Words.{Named, Worded}
+use Rattle.calculus.specs.Book.{View, most}
+use Rattle.calculus.specs.Meaning.{Meaning, a-star, a-castdown, an-app, a-castup, a-lam, a-pi, a-mu, a-variable, a-name, nothing, meaning}
+use Rattle.calculus.proofs.Meanings.{word, Indexed, meaning-word}
 use Rattle.term.specs.Kept.{keep, word-at}
 use Rattle.term.proofs.Keeping.{spelled}
-use Rattle.reduction.specs.Stepping.{deeper, at-application, at-castdown, locate, heads}
+use Rattle.reduction.specs.Stepping.{deeper, at-application, at-castdown, at-name, locate, heads}
 use Rattle.reduction.specs.declared.stepping.Redex.{Redex}
-use Rattle.reduction.specs.declared.stepping.Redex.the-variants.{Value, Stuck, Beta, Cancel, Unfold}
+use Rattle.reduction.specs.declared.stepping.Redex.the-variants.{Value, Stuck, Beta, Cancel, Unfold, Name}
 use Rattle.reduction.proofs.Frames.{Frame, applied-to, cast-down, frame-word}
 use Rattle.reduction.proofs.Redexes.{at-node}
 use Rattle.reduction.proofs.WordKinds.{index, kind, framing, no-frame, framing-kind}
 
--- For each kind of word the redex: at node 0, and behind frames, where `n` is the node of the word, `b` the one before it and `p`
--- the kind of that one's word.
-abbrev pub outermost : List Redex
-outermost = Value ∷ Stuck ∷ Stuck ∷ Value ∷ Value ∷ Unfold 0 ∷ Value ∷ Stuck ∷ Stuck ∷ []
+abbrev pub stands : Option Term → Bool
+stands none = false
+stands (some e) = true
 
-abbrev pub framed : ℕ → ℕ → ℕ → List Redex
-framed n b p =
+-- Whether a word is a name that something stands for at a view.
+abbrev pub visible : View → Meaning → Bool
+visible v a-star = false
+visible v a-castdown = false
+visible v an-app = false
+visible v a-castup = false
+visible v a-lam = false
+visible v a-pi = false
+visible v a-mu = false
+visible v (a-variable i) = false
+visible v (a-name i) = stands (v i)
+visible v nothing = false
+
+-- For each kind of word the redex, where `s` says whether the word is a visible name: at node 0, and behind frames, where `n` is the
+-- node of the word, `b` the one before it and `p` the kind of that one's word.
+abbrev pub outermost : Bool → List Redex
+outermost s = Value ∷ Stuck ∷ Stuck ∷ Value ∷ Value ∷ Unfold 0 ∷ Value ∷ Stuck ∷ Stuck ∷ cond s (Name 0) Stuck ∷ []
+
+abbrev pub framed : Bool → ℕ → ℕ → ℕ → List Redex
+framed s n b p =
     Stuck
     ∷ Stuck
     ∷ Stuck
@@ -37,17 +57,26 @@ framed n b p =
     ∷ Stuck
     ∷ Stuck
     ∷ Stuck
+    ∷ cond s (Name n) Stuck
     ∷ []
 
-abbrev row : ℕ → ℕ → List Redex
-row zero p = outermost
-row (suc n) p = framed (suc n) n p
+abbrev row : Bool → ℕ → ℕ → List Redex
+row s zero p = outermost s
+row s (suc n) p = framed s (suc n) n p
 
-abbrev pub decide : ℕ → ℕ → ℕ → Redex
-decide n w p = getD (row n p) w Stuck
+abbrev pub decide : View → ℕ → Meaning → ℕ → Redex
+decide v n m p = getD (row (visible v m) n p) (index m) Stuck
 
-abbrev pub decided : List ℕ → Redex
-decided ws = decide (heads ws) (kind (getD (spelled ws) (heads ws) 0)) (kind (getD (spelled ws) (pred (heads ws)) 0))
+-- The word behind the leading down casts and applications.
+abbrev pub leader : List ℕ → ℕ
+leader ws = getD (spelled ws) (heads ws) 0
+
+abbrev pub decided : View → List ℕ → Redex
+decided v ws = decide v (heads ws) (meaning (leader ws)) (kind (getD (spelled ws) (pred (heads ws)) 0))
+
+pub name-decide : (v : View) (n i p : ℕ) → decide v n (a-name i) p ≡ cond (stands (v i)) (Name n) Stuck
+name-decide v zero i p = refl
+name-decide v (suc n) i p = refl
 
 -- A frame more around a frame.
 deeper-cond : (b : Bool) (r : Redex) → deeper (cond b r Stuck) Stuck ≡ cond b (deeper r Stuck) Stuck
@@ -55,84 +84,130 @@ unfolding deeper
 deeper-cond true r = refl
 deeper-cond false r = refl
 
-deeper-row : (n p : ℕ) → map (λ r. deeper r Stuck) (row (suc n) p) ≡ row (suc (suc n)) p
+deeper-row : (s : Bool) (n p : ℕ) → map (λ r. deeper r Stuck) (row s (suc n) p) ≡ row s (suc (suc n)) p
 unfolding deeper
-deeper-row n p = rw (deeper-cond (eqb p 1) (Cancel n), deeper-cond (eqb p 2) (Beta n)) refl
+deeper-row s n p =
+    rw (deeper-cond (eqb p 1) (Cancel n), deeper-cond (eqb p 2) (Beta n), deeper-cond s (Name (suc n))) refl
 
-deeper-decide : (n w p : ℕ) → deeper (decide (suc n) w p) Stuck ≡ decide (suc (suc n)) w p
+deeper-decide : (v : View) (n : ℕ) (m : Meaning) (p : ℕ) → deeper (decide v (suc n) m p) Stuck ≡ decide v (suc (suc n)) m p
 unfolding deeper
-deeper-decide n w p =
-    sym (List·getD-map (λ r. deeper r Stuck) (row (suc n) p) w Stuck) ∙ ap (λ l. getD l w Stuck) (deeper-row n p)
+deeper-decide v n m p =
+    let s = visible v m in
+    sym (List·getD-map (λ r. deeper r Stuck) (row s (suc n) p) (index m) Stuck) ∙ ap (λ l. getD l (index m) Stuck) (deeper-row s n p)
 
 heads-frame : (f : Frame) (l : ℕ) (ws : List ℕ) → heads (frame-word f ∷ l ∷ ws) ≡ suc (heads ws)
 unfolding frame-word heads
 heads-frame (applied-to u) l ws = refl
 heads-frame cast-down l ws = refl
 
-frame-inside : (f g : Frame) (l m : ℕ) (ws : List ℕ) {r : Redex}
-    → r ≡ decided (frame-word g ∷ m ∷ ws)
-    → deeper r Stuck ≡ decided (frame-word f ∷ l ∷ frame-word g ∷ m ∷ ws)
+frame-inside : (v : View) (f g : Frame) (l m : ℕ) (ws : List ℕ) {r : Redex}
+    → r ≡ decided v (frame-word g ∷ m ∷ ws)
+    → deeper r Stuck ≡ decided v (frame-word f ∷ l ∷ frame-word g ∷ m ∷ ws)
 unfolding spelled
-frame-inside f g l m ws h =
+frame-inside v f g l m ws h =
     rw
     (h, heads-frame f l (frame-word g ∷ m ∷ ws), heads-frame g m ws)
-    (deeper-decide
-    (heads ws)
-    (kind (getD (spelled ws) (heads ws) 0))
-    (kind (getD (frame-word g ∷ spelled ws) (heads ws) 0)))
+    (deeper-decide v (heads ws) (meaning (leader ws)) (kind (getD (frame-word g ∷ spelled ws) (heads ws) 0)))
 
--- A word that means no node, as that of a variable or of a name, by itself and in a frame.
-module _ (w : ℕ) (high : 7 ≤ w) where
-  heads-leaf : (k : List ℕ) → heads (w ∷ 1 ∷ k) ≡ 0
-  unfolding heads
-  heads-leaf k = rw (no-frame w high) refl
+heads-leaf : (w : ℕ) → 7 ≤ w → (k : List ℕ) → heads (w ∷ 1 ∷ k) ≡ 0
+unfolding heads
+heads-leaf w high k = rw (no-frame w high) refl
 
-  leaf-decided : (k : List ℕ) → Stuck ≡ decided (w ∷ 1 ∷ k)
-  unfolding kind spelled
-  leaf-decided k = rw (heads-leaf k) (from-seven (λ m. Stuck ≡ decide 0 (index m) (index m)) w high refl refl)
+-- A word without parts, as that of a variable or of a name, by itself and in a frame.
+module _ (w : ℕ) (high : 7 ≤ w) {m : Meaning} (known : meaning w ≡ m) (k : List ℕ) where
+  leaf-leads : meaning (leader (w ∷ 1 ∷ k)) ≡ m
+  unfolding spelled
+  leaf-leads = rw (heads-leaf w high k) known
 
-  leaf-inside : (f : Frame) (l : ℕ) (k : List ℕ) → Stuck ≡ decided (frame-word f ∷ l ∷ w ∷ 1 ∷ k)
-  unfolding kind spelled
-  leaf-inside f l k =
-      rw
-      (heads-frame f l (w ∷ 1 ∷ k), heads-leaf k)
-      (from-seven (λ m. Stuck ≡ decide 1 (index m) (kind (frame-word f))) w high refl refl)
+  leaf-decided : (v : View) → decide v 0 m (kind w) ≡ decided v (w ∷ 1 ∷ k)
+  unfolding spelled
+  leaf-decided v = rw (heads-leaf w high k, known) refl
 
-fill-decided : (f : Frame) (l : ℕ) (t : Term) (k : List ℕ)
-    → locate t ≡ decided (keep t k)
-    → deeper (locate t) (at-node f t) ≡ decided (frame-word f ∷ l ∷ keep t k)
-unfolding keep spelled heads locate deeper at-node at-application at-castdown frame-word kind meaning
-fill-decided (applied-to u) l (var i) k h = leaf-inside (16 + i) (omega arith) (applied-to u) l k
-fill-decided (applied-to u) l star k h = refl
-fill-decided (applied-to u) l (app g s) k h =
-    frame-inside (applied-to u) (applied-to s) l (size (app g s)) (keep g (keep s k)) h
-fill-decided (applied-to u) l (lam a e) k h = refl
-fill-decided (applied-to u) l (pi a b) k h = refl
-fill-decided (applied-to u) l (castup a e) k h = refl
-fill-decided (applied-to u) l (castdown e) k h = frame-inside (applied-to u) cast-down l (size (castdown e)) (keep e k) h
-fill-decided (applied-to u) l (mu a e) k h = refl
-fill-decided (applied-to u) l (name i) k h = leaf-inside (2048 + i) (omega arith) (applied-to u) l k
-fill-decided cast-down l (var i) k h = leaf-inside (16 + i) (omega arith) cast-down l k
-fill-decided cast-down l star k h = refl
-fill-decided cast-down l (app g s) k h = frame-inside cast-down (applied-to s) l (size (app g s)) (keep g (keep s k)) h
-fill-decided cast-down l (lam a e) k h = refl
-fill-decided cast-down l (pi a b) k h = refl
-fill-decided cast-down l (castup a e) k h = refl
-fill-decided cast-down l (castdown e) k h = frame-inside cast-down cast-down l (size (castdown e)) (keep e k) h
-fill-decided cast-down l (mu a e) k h = refl
-fill-decided cast-down l (name i) k h = leaf-inside (2048 + i) (omega arith) cast-down l k
+  leaf-inside : (v : View) (f : Frame) (l : ℕ) → decide v 1 m (kind (frame-word f)) ≡ decided v (frame-word f ∷ l ∷ w ∷ 1 ∷ k)
+  unfolding spelled
+  leaf-inside v f l = rw (heads-frame f l (w ∷ 1 ∷ k), heads-leaf w high k, known) refl
 
-pub located : (t : Term) (k : List ℕ) → locate t ≡ decided (keep t k)
-unfolding keep spelled heads locate at-node frame-word kind meaning
-located (var i) k = leaf-decided (16 + i) (omega arith) k
-located star k = refl
-located (app f u) k = fill-decided (applied-to u) (size (app f u)) f (keep u k) (located f (keep u k))
-located (lam a e) k = refl
-located (pi a b) k = refl
-located (castup a e) k = refl
-located (castdown e) k = fill-decided cast-down (size (castdown e)) e k (located e k)
-located (mu a e) k = refl
-located (name i) k = leaf-decided (2048 + i) (omega arith) k
+-- A name, by what stands for it.
+name-outermost : (o : Option Term) → at-name o ≡ cond (stands o) (Name 0) Stuck
+unfolding at-name
+name-outermost none = refl
+name-outermost (some e) = refl
+
+name-inside : (o : Option Term) → deeper (at-name o) Stuck ≡ cond (stands o) (Name 1) Stuck
+unfolding at-name deeper
+name-inside none = refl
+name-inside (some e) = refl
+
+-- Of a term that names some of `n` definitions, as many as have a word.
+module _ (n : ℕ) (few : n ≤ most) where
+  variable-means : (i : ℕ) → i < 2032 → meaning (16 + i) ≡ a-variable i
+  unfolding word Indexed
+  variable-means i h = meaning-word (a-variable i) h
+
+  pub name-means : (i : ℕ) → i < n → meaning (2048 + i) ≡ a-name i
+  unfolding word Indexed
+  name-means i h = meaning-word (a-name i) (omega arith)
+
+  fill-decided : (v : View) (f : Frame) (l : ℕ) (t : Term) (k : List ℕ)
+      → Worded t
+      → Named n t
+      → locate v t ≡ decided v (keep t k)
+      → deeper (locate v t) (at-node f t) ≡ decided v (frame-word f ∷ l ∷ keep t k)
+  unfolding keep spelled heads locate deeper at-node at-application at-castdown frame-word kind meaning Worded Named
+  fill-decided v (applied-to u) l (var i) k has named h =
+      leaf-inside (16 + i) (omega arith) (variable-means i has) k v (applied-to u) l
+  fill-decided v (applied-to u) l star k has named h = refl
+  fill-decided v (applied-to u) l (app g s) k has named h =
+      frame-inside v (applied-to u) (applied-to s) l (size (app g s)) (keep g (keep s k)) h
+  fill-decided v (applied-to u) l (lam a e) k has named h = refl
+  fill-decided v (applied-to u) l (pi a b) k has named h = refl
+  fill-decided v (applied-to u) l (castup a e) k has named h = refl
+  fill-decided v (applied-to u) l (castdown e) k has named h =
+      frame-inside v (applied-to u) cast-down l (size (castdown e)) (keep e k) h
+  fill-decided v (applied-to u) l (mu a e) k has named h = refl
+  fill-decided v (applied-to u) l (name i) k has named h =
+      name-inside (v i) ∙ leaf-inside (2048 + i) (omega arith) (name-means i named) k v (applied-to u) l
+  fill-decided v cast-down l (var i) k has named h =
+      leaf-inside (16 + i) (omega arith) (variable-means i has) k v cast-down l
+  fill-decided v cast-down l star k has named h = refl
+  fill-decided v cast-down l (app g s) k has named h =
+      frame-inside v cast-down (applied-to s) l (size (app g s)) (keep g (keep s k)) h
+  fill-decided v cast-down l (lam a e) k has named h = refl
+  fill-decided v cast-down l (pi a b) k has named h = refl
+  fill-decided v cast-down l (castup a e) k has named h = refl
+  fill-decided v cast-down l (castdown e) k has named h = frame-inside v cast-down cast-down l (size (castdown e)) (keep e k) h
+  fill-decided v cast-down l (mu a e) k has named h = refl
+  fill-decided v cast-down l (name i) k has named h =
+      name-inside (v i) ∙ leaf-inside (2048 + i) (omega arith) (name-means i named) k v cast-down l
+
+  pub located : (v : View) (t : Term) (k : List ℕ) → Worded t → Named n t → locate v t ≡ decided v (keep t k)
+  unfolding keep spelled heads locate at-node frame-word kind meaning Worded Named
+  located v (var i) k has named = leaf-decided (16 + i) (omega arith) (variable-means i has) k v
+  located v star k has named = refl
+  located v (app f u) k has named =
+      fill-decided v (applied-to u) (size (app f u)) f (keep u k) (has .0) (named .0) (located v f (keep u k) (has .0) (named .0))
+  located v (lam a e) k has named = refl
+  located v (pi a b) k has named = refl
+  located v (castup a e) k has named = refl
+  located v (castdown e) k has named = fill-decided v cast-down (size (castdown e)) e k has named (located v e k has named)
+  located v (mu a e) k has named = refl
+  located v (name i) k has named = name-outermost (v i) ∙ leaf-decided (2048 + i) (omega arith) (name-means i named) k v
+
+  -- A name behind the frames is one of the definitions.
+  pub leader-named : (t : Term) (k : List ℕ) (i : ℕ) → Worded t → Named n t → meaning (leader (keep t k)) ≡ a-name i → i < n
+  unfolding keep spelled heads meaning Worded Named
+  leader-named (var j) k i has named h =
+      absurd (true≢false (cc (leaf-leads (16 + j) (omega arith) (variable-means j has) k, h)))
+  leader-named star k i has named h = absurd (true≢false (cc h))
+  leader-named (app f u) k i has named h = leader-named f (keep u k) i (has .0) (named .0) h
+  leader-named (lam a e) k i has named h = absurd (true≢false (cc h))
+  leader-named (pi a b) k i has named h = absurd (true≢false (cc h))
+  leader-named (castup a e) k i has named h = absurd (true≢false (cc h))
+  leader-named (castdown e) k i has named h = leader-named e k i has named h
+  leader-named (mu a e) k i has named h = absurd (true≢false (cc h))
+  leader-named (name j) k i has named h =
+      let same : j ≡ i = cc (leaf-leads (2048 + j) (omega arith) (name-means j named) k, h) in
+      omega (arith, same, named)
 
 -- There is a node behind the frames.
 pub heads-inside : (t : Term) (k : List ℕ) → 2 * heads (keep t k) + 1 < length (keep t k)

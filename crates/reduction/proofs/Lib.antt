@@ -8,3 +8,4 @@ pub mod Moving
 pub mod Surrounding
 pub mod Placing
 pub mod Replacing
+pub mod Names

@@ -5,9 +5,10 @@ use mathlib.Core.List.{List}
 use mathlib.Core.Path.{_≡_, refl, sym, ap, _∙_, subst}
 use native.Mathlib.Omega.{arith}
 use lib.ListN.{length, take, drop}
-use Rattle.calculus.specs.Term.{Term, app, lam, castup, castdown, mu, size}
-use Rattle.calculus.specs.Words.{Scoped, Worded, longest}
-use Rattle.calculus.specs.Step.{next}
+use Rattle.calculus.specs.Term.{Term, app, lam, castup, castdown, mu, name, size}
+use Rattle.calculus.specs.Words.{Scoped, Named, Worded, longest}
+use Rattle.calculus.specs.Book.{View}
+use Rattle.calculus.specs.Step.{next, step}
 use Rattle.calculus.proofs.Coding.{size-positive}
 use Rattle.term.specs.Kept.{Lies, kept}
 use Rattle.term.proofs.Nodes.{two-app, two-castup, two-lam, two-mu, size-two}
@@ -17,8 +18,8 @@ use Rattle.reduction.specs.declared.stepping.Redex.the-variants as redex
 use Rattle.reduction.specs.declared.stepping.Stepped.{Stepped}
 use Rattle.reduction.specs.declared.stepping.Stepped.the-variants as stepped
 use Rattle.kept.specs.Writing.{Puts}
-use Rattle.reduction.specs.Stepping.{Around, Arrives, Located, Steps, kind-of, locate, next-of}
-use Rattle.reduction.proofs.Frames.{step-around, scoped-inside, worded-inside}
+use Rattle.reduction.specs.Stepping.{Around, Arrives, Located, Steps, kind-of, locate}
+use Rattle.reduction.proofs.Frames.{step-around, scoped-inside, named-inside, worded-inside}
 use Rattle.reduction.proofs.Redexes.{Inside, splits-at}
 use Rattle.reduction.proofs.Surrounding.{around-lies, around-length, around-within, same-difference}
 
@@ -37,21 +38,26 @@ placed t coded has short i = record { term = t; coded = coded; has-words = has; 
 pub beta-placed : {ws : List ℕ} {at : ℕ}
     → Located ws (redex.Beta at)
     → (a : Term) × (e : Term) × (u : Term) × Placed ws at (app (lam a e) u)
-beta-placed (t, coded, has, short, there) =
-    let (a, e, u, i) = splits-at t there in
+beta-placed (v, t, coded, has, short, there) =
+    let (a, e, u, i) = splits-at v t there in
     (a, e, u, placed t coded has short i)
 
 pub unfold-placed : {ws : List ℕ} {at : ℕ} → Located ws (redex.Unfold at) → (a : Term) × (e : Term) × Placed ws at (mu a e)
-unfold-placed (t, coded, has, short, there) =
-    let (a, e, i) = splits-at t there in
+unfold-placed (v, t, coded, has, short, there) =
+    let (a, e, i) = splits-at v t there in
     (a, e, placed t coded has short i)
 
 pub cancel-placed : {ws : List ℕ} {at : ℕ}
     → Located ws (redex.Cancel at)
     → (a : Term) × (e : Term) × Placed ws at (castdown (castup a e))
-cancel-placed (t, coded, has, short, there) =
-    let (a, e, i) = splits-at t there in
+cancel-placed (v, t, coded, has, short, there) =
+    let (a, e, i) = splits-at v t there in
     (a, e, placed t coded has short i)
+
+pub name-placed : {ws : List ℕ} {at : ℕ} → Located ws (redex.Name at) → (i : ℕ) × Placed ws at (name i)
+name-placed (v, t, coded, has, short, there) =
+    let (i, e, shown, inside) = splits-at v t there in
+    (i, placed t coded has short inside)
 
 module _ {ws : List ℕ} {at : ℕ} {s : Term} (p : Placed ws at s) where
   pub placed-lies : Lies s ws at
@@ -66,36 +72,59 @@ module _ {ws : List ℕ} {at : ℕ} {s : Term} (p : Placed ws at s) where
   pub placed-scoped : (t : Term) → ws ≡ kept t → Worded t → (n : ℕ) → Scoped n t → Scoped n s
   placed-scoped t coded has n h = scoped-inside (p .around s) n (subst (Scoped n) (same t coded has) h)
 
+  pub placed-named : (t : Term) → ws ≡ kept t → Worded t → (n : ℕ) → Named n t → Named n s
+  placed-named t coded has n h = named-inside (p .around s) n (subst (Named n) (same t coded has) h)
+
   pub placed-worded : Worded s
   placed-worded = worded-inside (p .around s) (p .has-words)
 
-  module _ (K : Kind) (x : Term) (h : next-of s ≡ next (kind-of K) x) where
-    pub reaches : {out after : List ℕ} {r : Stepped}
+  module _ (K : Kind) (x : Term) where
+    -- At a view where the redex steps to `x`, the whole steps to what has arrived.
+    pub reaches-at : (v : View)
+        → step v s ≡ next (kind-of K) x
+        → {out after : List ℕ} {r : Stepped}
         → Arrives K (p .put x) out r after
         → (t : Term)
         → ws ≡ kept t
         → Worded t
-        → Steps (next-of t) out r after
+        → Steps (step v t) out r after
     unfolding Steps
-    reaches {out} {after} {r} a t coded has =
-        subst (λ n. Steps n out r after) (sym (ap next-of (same t coded has) ∙ step-around (p .around x) h)) (K, refl, a)
+    reaches-at v h {out} {after} {r} a t coded has =
+        subst (λ n. Steps n out r after) (sym (ap (step v) (same t coded has) ∙ step-around v (p .around x) h)) (K, refl, a)
 
-    pub no-room : (out : List ℕ) → length out < 2 * at → (t : Term) → ws ≡ kept t → Worded t → Steps (next-of t) out stepped.Full out
-    no-room out lacks =
-        reaches
+    -- What takes more room than there is lacks it with all around it.
+    pub lacks-room : (out : List ℕ) → length out < 2 * (at + size x) → Arrives K (p .put x) out stepped.Full out
+    lacks-room out lacks =
         record {
           fits = λ all. absurd (omega (arith, around-within (p .around x) (p .coded), same-difference (p .around x)));
           full = λ _. (refl, refl);
         }
 
--- Where there is no redex, the term is a value or stuck.
-pub value-stays : (out : List ℕ) (t : Term) → locate t ≡ redex.Value → Steps (next-of t) out stepped.Value out
-unfolding Steps
-value-stays out t h = rw (splits-at t h) (refl, refl)
+    module _ (h : (v : View) → step v s ≡ next (kind-of K) x) where
+      pub reaches : {out after : List ℕ} {r : Stepped}
+          → Arrives K (p .put x) out r after
+          → (v : View) (t : Term)
+          → ws ≡ kept t
+          → Worded t
+          → Steps (step v t) out r after
+      reaches a v = reaches-at v (h v) a
 
-pub stuck-stays : (out : List ℕ) (t : Term) → locate t ≡ redex.Stuck → Steps (next-of t) out stepped.Stuck out
+      pub no-room : (out : List ℕ)
+          → length out < 2 * at
+          → (v : View) (t : Term)
+          → ws ≡ kept t
+          → Worded t
+          → Steps (step v t) out stepped.Full out
+      no-room out lacks = reaches (lacks-room out (omega arith))
+
+-- Where there is no redex, the term is a value or stuck.
+pub value-stays : (out : List ℕ) (v : View) (t : Term) → locate v t ≡ redex.Value → Steps (step v t) out stepped.Value out
 unfolding Steps
-stuck-stays out t h = rw (splits-at t h) (refl, refl)
+value-stays out v t h = rw (splits-at v t h) (refl, refl)
+
+pub stuck-stays : (out : List ℕ) (v : View) (t : Term) → locate v t ≡ redex.Stuck → Steps (step v t) out stepped.Stuck out
+unfolding Steps
+stuck-stays out v t h = rw (splits-at v t h) (refl, refl)
 
 -- A term that lies in a slice has a node there; the words from its node to its end are its own.
 pub lies-node : {t : Term} {slice : List ℕ} {n : ℕ} → Lies t slice n → 2 * n + 1 < length slice

@@ -12,14 +12,14 @@ use Rattle.calculus.proofs.Coding.{worded}
 use Rattle.term.specs.Kept.{Lies}
 use Rattle.term.proofs.Keeping.{lies-within}
 use Rattle.kept.specs.Rewriting.{Argument, Subject}
-use Rattle.reduction.specs.Stepping.{HeldWithin}
+use Rattle.reduction.specs.Stepping.{Within}
 use Rattle.reduction.proofs.Placing.{Placed, placed-short, placed-scoped, lies-part}
 
 -- The indices of a state have words.
-pub held-worded : {ws : List ℕ} {closed : Bool} (h : HeldWithin ws closed) → Worded (h .term)
-held-worded h = worded deepest (h .term) (h .scoped) (omega (arith, h .short))
+within-worded : {ws : List ℕ} {closed : Bool} (h : Within ws closed) → Worded (h .term)
+within-worded h = worded deepest (h .term) (h .scoped) (omega (arith, h .short))
 
-module _ {ws : List ℕ} {at : ℕ} {s : Term} {closed : Bool} (p : Placed ws at s) (held : HeldWithin ws closed) where
+module _ {ws : List ℕ} {at : ℕ} {s : Term} {closed : Bool} (p : Placed ws at s) (held : Within ws closed) where
   near : {t : Term} {n : ℕ} → Lies t ws n → n + size t ≤ longest
   near l = omega (arith, lies-within l, placed-short p)
 
@@ -28,7 +28,7 @@ module _ {ws : List ℕ} {at : ℕ} {s : Term} {closed : Bool} (p : Placed ws at
       → ((m : ℕ) → Scoped m s → Scoped (suc m) e)
       → (e : Term) × Subject e ws n 0 × (n + size e ≤ longest)
   body-fits {e} l inside =
-      let scoped = inside deepest (placed-scoped p (held .term) (held .coded) (held-worded held) deepest (held .scoped)) in
+      let scoped = inside deepest (placed-scoped p (held .term) (held .coded) (within-worded held) deepest (held .scoped)) in
       (e, record { lies = l; scoped = scoped; near = omega (arith, near l) }, near l)
 
   pub argument-fits : {u : Term} {n end : ℕ}
@@ -43,8 +43,8 @@ module _ {ws : List ℕ} {at : ℕ} {s : Term} {closed : Bool} (p : Placed ws at
       fits =
           record {
             short = omega (arith, near l);
-            scoped = inside deepest (placed-scoped p (held .term) (held .coded) (held-worded held) deepest (held .scoped));
+            scoped = inside deepest (placed-scoped p (held .term) (held .coded) (within-worded held) deepest (held .scoped));
           };
-      shut = λ is-closed. inside 0 (placed-scoped p (held .term) (held .coded) (held-worded held) 0 (held .shut is-closed));
+      shut = λ is-closed. inside 0 (placed-scoped p (held .term) (held .coded) (within-worded held) 0 (held .shut is-closed));
     },
   )

@@ -1,6 +1,6 @@
 -- The kinds of words, one for each variant of the enum that a word is classified by, numbered as the variants are: so what the
 -- code knows of a variant's number it knows of the word's kind. Words below 7 have a kind of their own; from 7 on a word is a
--- variable or means nothing.
+-- variable or a name, or means nothing.
 use Prim.Native.Nat.{ℕ, _≤_}
 use mathlib.Core.Bool.{Bool, false, _&&_}
 use mathlib.Core.List.{List}
@@ -10,11 +10,11 @@ use borrow.Author.Tests.{le-leb, lt-leb}
 use lib.Dec.{leb}
 use types.Run.{OneOf}
 use Rattle.calculus.specs.Meaning as calculus
-use Rattle.calculus.specs.Meaning.{a-star, a-castdown, an-app, a-castup, a-lam, a-pi, a-mu, a-variable, nothing, meaning}
+use Rattle.calculus.specs.Meaning.{a-star, a-castdown, an-app, a-castup, a-lam, a-pi, a-mu, a-variable, a-name, nothing, meaning}
 use Rattle.calculus.proofs.Meanings.{by-word, from-seven}
 use Rattle.term.specs.declared.word.Meaning.{Meaning}
 use Rattle.term.specs.declared.word.Meaning.the-variants.{Star, CastDown, Application, CastUp, Abstraction, Product}
-use Rattle.term.specs.declared.word.Meaning.the-variants.{Recursion, Variable, Nothing}
+use Rattle.term.specs.declared.word.Meaning.the-variants.{Recursion, Variable, Nothing, Name}
 use Rattle.term.specs.Word.{meaning-of}
 use Rattle.term.proofs.Visits.{tag, Each, at-one}
 
@@ -28,6 +28,7 @@ index a-pi = 6
 index a-mu = 5
 index (a-variable i) = 7
 index nothing = 8
+index (a-name i) = 9
 
 unfoldable pub kind : ℕ → ℕ
 kind w = index (meaning w)
@@ -42,6 +43,7 @@ tag-index Product = refl
 tag-index Recursion = refl
 tag-index (Variable i) = refl
 tag-index Nothing = refl
+tag-index (Name i) = refl
 
 -- A word that is classified by one of some variants: what holds of each of them holds of its kind.
 pub kind-among : (P : ℕ → Type 0) (m : Meaning) (w : ℕ) (ks : List ℕ)
@@ -64,4 +66,4 @@ unfolding kind meaning
 framing-kind = by-word (λ w. framing w ≡ framing (kind w)) refl refl refl refl refl refl refl others
   where
     others : (w : ℕ) → 7 ≤ w → framing w ≡ framing (kind w)
-    others w low = no-frame w low ∙ from-seven (λ m. false ≡ framing (index m)) w low refl refl
+    others w low = no-frame w low ∙ from-seven (λ m. false ≡ framing (index m)) w low refl refl refl

@@ -2,16 +2,19 @@
 use Prim.Native.Nat.{ℕ, suc, _+_, _-_, _*_, _≤_, _<_}
 use mathlib.Core.Bool.{Bool, true, cond, _&&_}
 use mathlib.Core.List.{List, [], _∷_}
+use mathlib.Core.Option.{Option, none, some}
 use mathlib.Core.Path.{_≡_}
 use lib.Dec.{leb}
 use lib.ListN.{length}
 use lib.Seq.{sets}
 use Rattle.calculus.specs.Term.{Term, var, star, app, lam, pi, castup, castdown, mu, name, size}
-use Rattle.calculus.specs.Words.{Scoped, Worded, longest, deepest}
-use Rattle.calculus.specs.Book.{bodies}
+use Rattle.calculus.specs.Words.{Scoped, Named, Worded, longest, deepest}
+use Rattle.calculus.specs.Book.{Book, View}
 use Rattle.calculus.specs.Kinds as kinds
 use Rattle.calculus.specs.Step as calculus
 use Rattle.term.specs.Kept.{kept}
+use Rattle.book.specs.Layout.{Holds, sight}
+use Rattle.book.specs.declared.Reader.{Reader}
 use Rattle.reduction.specs.declared.stepping.Kind.{Kind}
 use Rattle.reduction.specs.declared.stepping.Kind.the-variants as kind
 use Rattle.reduction.specs.declared.stepping.Redex.{Redex}
@@ -26,6 +29,7 @@ deeper redex.Stuck otherwise = otherwise
 deeper (redex.Beta n) otherwise = redex.Beta (suc n)
 deeper (redex.Cancel n) otherwise = redex.Cancel (suc n)
 deeper (redex.Unfold n) otherwise = redex.Unfold (suc n)
+deeper (redex.Name n) otherwise = redex.Name (suc n)
 
 unfoldable pub at-application : Term → Redex
 at-application (var i) = redex.Stuck
@@ -49,33 +53,54 @@ at-castdown (castdown e) = redex.Stuck
 at-castdown (mu a e) = redex.Stuck
 at-castdown (name i) = redex.Stuck
 
--- Where a term steps and by which rule: its node. No name stands for anything here.
-unfoldable pub locate : Term → Redex
-locate (var i) = redex.Stuck
-locate star = redex.Value
-locate (app f u) = deeper (locate f) (at-application f)
-locate (lam a e) = redex.Value
-locate (pi a b) = redex.Value
-locate (castup a e) = redex.Value
-locate (castdown e) = deeper (locate e) (at-castdown e)
-locate (mu a e) = redex.Unfold 0
-locate (name i) = redex.Stuck
+-- A name, by what stands for it.
+unfoldable pub at-name : Option Term → Redex
+at-name none = redex.Stuck
+at-name (some e) = redex.Name 0
 
--- The slice is a kept term.
-abbrev pub Held : List ℕ → Type 0
-Held slice = (t : Term) × (slice ≡ kept t)
+-- Where a term steps at a view and by which rule: its node.
+unfoldable pub locate : View → Term → Redex
+locate v (var i) = redex.Stuck
+locate v star = redex.Value
+locate v (app f u) = deeper (locate v f) (at-application f)
+locate v (lam a e) = redex.Value
+locate v (pi a b) = redex.Value
+locate v (castup a e) = redex.Value
+locate v (castdown e) = deeper (locate v e) (at-castdown e)
+locate v (mu a e) = redex.Unfold 0
+locate v (name i) = at-name (v i)
 
--- It is one of at most 1,024 nodes, in a context of at most 64 annotations; a closed one where `closed`.
-pub record HeldWithin (slice : List ℕ) (closed : Bool) : Type 0 where
+-- The slice is the kept term `t`, whose indices have words of their own, and which names definitions of the book alone.
+pub record Keeps (B : Book) (t : Term) (slice : List ℕ) : Type 0 where
+  pub coded : slice ≡ kept t
+  pub has-words : Worded t
+  pub named : Named (length B) t
+
+-- It is some such term, over a book that a slice holds.
+abbrev pub Held : List ℕ → List ℕ → Type 0
+Held book slice = (B : Book) × (t : Term) × Holds B book × Keeps B t slice
+
+-- The slice is a kept term of at most 1,024 nodes, in a context of at most 64 annotations; a closed one where `closed`.
+pub record Within (slice : List ℕ) (closed : Bool) : Type 0 where
   pub term : Term
   pub coded : slice ≡ kept term
   pub short : size term ≤ longest
   pub scoped : Scoped deepest term
   pub shut : closed ≡ true → Scoped 0 term
 
--- It is one of at most 1,024 nodes that steps at that redex.
+-- It is such a term over a book that a slice holds.
+pub record HeldWithin (book slice : List ℕ) (closed : Bool) : Type 0 where
+  pub lent : Book
+  pub holds : Holds lent book
+  pub term : Term
+  pub keeps : Keeps lent term slice
+  pub short : size term ≤ longest
+  pub scoped : Scoped deepest term
+  pub shut : closed ≡ true → Scoped 0 term
+
+-- It is a term of at most 1,024 nodes that steps, at some view, at that redex.
 abbrev pub Located : List ℕ → Redex → Type 0
-Located slice r = (t : Term) × (slice ≡ kept t) × Worded t × (size t ≤ longest) × (locate t ≡ r)
+Located slice r = (v : View) × (t : Term) × (slice ≡ kept t) × Worded t × (size t ≤ longest) × (locate v t ≡ r)
 
 -- The down casts and applications that kept words begin with.
 unfoldable pub heads : List ℕ → ℕ
@@ -120,10 +145,11 @@ Steps calculus.value out r after = (r ≡ stepped.Value) × (after ≡ out)
 Steps calculus.stuck out r after = (r ≡ stepped.Stuck) × (after ≡ out)
 Steps (calculus.next k x) out r after = (K : Kind) × (kind-of K ≡ k) × Arrives K x out r after
 
--- The step of a term over the empty book.
-abbrev pub next-of : Term → calculus.Next
-next-of = calculus.step (bodies [])
-
--- The same of a state: whatever term it keeps, by its step.
+-- The same of a state by a rule that asks for no book: whatever term it keeps, at every view.
 abbrev pub Tells : (state out : List ℕ) → Stepped → (after : List ℕ) → Type 0
-Tells state out r after = (t : Term) → state ≡ kept t → Worded t → Steps (next-of t) out r after
+Tells state out r after = (v : View) (t : Term) → state ≡ kept t → Worded t → Steps (calculus.step v t) out r after
+
+-- And over whatever book is held, as the reader sees it.
+abbrev pub TellsOver : Reader → (book state out : List ℕ) → Stepped → (after : List ℕ) → Type 0
+TellsOver who book state out r after =
+    (B : Book) (t : Term) → Holds B book → Keeps B t state → Steps (calculus.step (sight who B) t) out r after

@@ -1,12 +1,17 @@
 // One step (document 002, A.2): where the redex is and by which rule, and writing the next state.
+use book::Reader;
+use book::body;
+use book::shown;
 use kept::copying::Room;
 use kept::copying::copy;
 use kept::keeping::length_at;
 use kept::keeping::narrow;
+use kept::keeping::note;
 use kept::rewriting::copy_nodes;
 use kept::rewriting::substitute;
 use term::word::Meaning;
 use term::word::classify;
+use term::word::wide;
 ghost use mathlib.Core.List.{List};
 ghost use mathlib.Core.Path.{_≡_};
 ghost use Prim.Native.Nat.{ℕ, _+_, _*_, _≤_};
@@ -14,20 +19,24 @@ ghost use lib.ListN.{length, take};
 ghost use lib.Seq.{sets};
 ghost use Rattle.calculus.specs.Term.{Term, size};
 ghost use Rattle.calculus.specs.Words.{longest};
+ghost use Rattle.calculus.specs.Book.{Book};
+ghost use Rattle.calculus.specs.Step.{step};
+ghost use Rattle.book.specs.Layout.{Holds, sight};
 ghost use Rattle.term.specs.Kept.{kept};
-ghost use Rattle.reduction.specs.Stepping.{Around, Arrives, Held, HeldWithin, Located, Movable, Tells, heads, locate, moved};
+ghost use Rattle.reduction.specs.Stepping.{Around, Arrives, Held, HeldWithin, Keeps, Located, Movable, Steps, Tells, TellsOver, Within, heads, locate, moved};
 ghost use Rattle.kept.specs.Writing.{Puts};
 
-// Where a state steps and by which rule: the node of the application, of the down cast or of the recursion.
+// Where a state steps and by which rule: the node of the application, of the down cast, of the recursion or of the name.
 pub enum Redex {
     Value,
     Stuck,
     Beta(usize),
     Cancel(usize),
     Unfold(usize),
+    Name(usize),
 }
 
-// The kinds of steps, by their rule: S_BETA, S_MU, S_CASTDOWNUP.
+// The kinds of steps, by their rule: S_BETA, S_MU and the step of a name, S_CASTDOWNUP.
 pub enum Kind {
     Substitution,
     Unfolding,
@@ -61,12 +70,13 @@ fn leading(state: &[u16]) -> usize
 }
 
 // The redex of a state: the half of a step that writes nothing.
-pub fn find_redex(state: &[u16]) -> Redex
-    requires { ⌜ Held (now state) ⌝ }
-    ensures { λ r. ⌜ ((t : Term) → now (state .entry) ≡ kept t → r ≡ locate t) ⌝ }
+pub fn find_redex(state: &[u16], book: &[u16], reader: Reader) -> Redex
+    requires { ⌜ Held (now book) (now state) ⌝ }
+    ensures { λ r. ⌜ ((B : Book) (t : Term) → Holds B (now (book .entry)) → Keeps B t (now (state .entry)) → r ≡ locate (sight reader B) t) ⌝ }
 {
     let at = leading(state);
-    match classify(state[2 * at]) {
+    let word = state[2 * at];
+    match classify(word) {
         Meaning::Recursion => Redex::Unfold(at),
         Meaning::Star | Meaning::Product => {
             if at == 0 {
@@ -89,6 +99,12 @@ pub fn find_redex(state: &[u16]) -> Redex
             }
             if let Meaning::CastDown = classify(state[2 * (at - 1)]) {
                 return Redex::Cancel(at - 1);
+            }
+            Redex::Stuck
+        }
+        Meaning::Name(number) => {
+            if shown(book, wide(number), reader) {
+                return Redex::Name(at);
             }
             Redex::Stuck
         }
@@ -128,7 +144,7 @@ fn surround(kind: Kind, state: &[u16], at: usize, end: usize, out: &mut [u16]) -
 
 // S_BETA at the application at `at`.
 fn beta(state: &[u16], at: usize, closed: bool, out: &mut [u16]) -> Stepped
-    requires { ⌜ HeldWithin (now state) closed × Located (now state) (Redex.Beta at) × (length (now out) ≤ 2 * longest) ⌝ }
+    requires { ⌜ Within (now state) closed × Located (now state) (Redex.Beta at) × (length (now out) ≤ 2 * longest) ⌝ }
     ensures { λ r. ⌜ Tells (now (state .entry)) (now (out .entry)) r (now (out .exit)) ⌝ }
 {
     if out.len() < 2 * at {
@@ -151,7 +167,7 @@ fn beta(state: &[u16], at: usize, closed: bool, out: &mut [u16]) -> Stepped
 
 // S_MU at the recursion at `at`.
 fn unfold(state: &[u16], at: usize, closed: bool, out: &mut [u16]) -> Stepped
-    requires { ⌜ HeldWithin (now state) closed × Located (now state) (Redex.Unfold at) × (length (now out) ≤ 2 * longest) ⌝ }
+    requires { ⌜ Within (now state) closed × Located (now state) (Redex.Unfold at) × (length (now out) ≤ 2 * longest) ⌝ }
     ensures { λ r. ⌜ Tells (now (state .entry)) (now (out .entry)) r (now (out .exit)) ⌝ }
 {
     if out.len() < 2 * at {
@@ -179,16 +195,35 @@ fn cancel(state: &[u16], at: usize, out: &mut [u16]) -> Stepped
     surround(Kind::Cancellation, state, at, end, out)
 }
 
-// The next state of `state`, written to the front of `out`; `closed` where the state is a closed term.
-pub fn step(state: &[u16], closed: bool, out: &mut [u16]) -> Stepped
-    requires { ⌜ HeldWithin (now state) closed × (length (now out) ≤ 2 * longest) ⌝ }
-    ensures { λ r. ⌜ Tells (now (state .entry)) (now (out .entry)) r (now (out .exit)) ⌝ }
+// The step of the name at `at`: its body stands for it, as it is stored.
+fn unfold_name(state: &[u16], at: usize, out: &mut [u16], book: &[u16]) -> Stepped
+    requires { ⌜ Held (now book) (now state) × Located (now state) (Redex.Name at) × (length (now out) ≤ 2 * longest) ⌝ }
+    ensures { λ r. ⌜ ((who : Reader) (B : Book) (t : Term) → Holds B (now (book .entry)) → Keeps B t (now (state .entry)) → locate (sight who B) t ≡ Redex.Name at → Steps (step (sight who B) t) (now (out .entry)) r (now (out .exit))) ⌝ }
 {
-    match find_redex(state) {
+    let Meaning::Name(number) = classify(state[2 * at]) else {
+        return Stepped::Stuck;
+    };
+    let words = body(book, wide(number));
+    let body_end = at + words.len();
+    if out.len() < 2 * body_end {
+        return Stepped::Full;
+    }
+    note(words, out, at);
+    surround(Kind::Unfolding, state, at, body_end, out)
+}
+
+// The next state of `state`, written to the front of `out`; `closed` where the state is a closed term. What a name stands for is looked
+// up in the book, as its reader sees it.
+pub fn step(state: &[u16], closed: bool, out: &mut [u16], book: &[u16], reader: Reader) -> Stepped
+    requires { ⌜ HeldWithin (now book) (now state) closed × (length (now out) ≤ 2 * longest) ⌝ }
+    ensures { λ r. ⌜ TellsOver reader (now (book .entry)) (now (state .entry)) (now (out .entry)) r (now (out .exit)) ⌝ }
+{
+    match find_redex(state, book, reader) {
         Redex::Value => Stepped::Value,
         Redex::Stuck => Stepped::Stuck,
         Redex::Beta(at) => beta(state, at, closed, out),
         Redex::Unfold(at) => unfold(state, at, closed, out),
         Redex::Cancel(at) => cancel(state, at, out),
+        Redex::Name(at) => unfold_name(state, at, out, book),
     }
 }

@@ -6,7 +6,7 @@ use lib.ListN.{getD}
 use Rattle.calculus.specs.Answer as calculus
 use Rattle.calculus.specs.Answer.{Answer, ok, refused, number}
 use Rattle.calculus.specs.Meaning as calculus-meaning
-use Rattle.calculus.specs.Meaning.{a-star, a-castdown, an-app, a-castup, a-lam, a-pi, a-mu, a-variable, nothing}
+use Rattle.calculus.specs.Meaning.{a-star, a-castdown, an-app, a-castup, a-lam, a-pi, a-mu, a-variable, a-name, nothing}
 use Rattle.calculus.proofs.NumberInjective.{undone}
 use Rattle.term.specs.declared.Found.{Found}
 use Rattle.term.specs.declared.reading.Reading.{Reading}
@@ -14,7 +14,7 @@ use Rattle.term.specs.declared.reading.Reading.the-variants as reading
 use Rattle.term.specs.declared.refusal.Reason.{Reason}
 use Rattle.term.specs.declared.refusal.Reason.the-variants.{LimitNotAllowed, WorkShort, OutputShort, LengthNotAllowed, NoMeaning, ListEnds, WordsAfter, Level65, Unbound, NotStar, NotProduct, WrongArgument, NoStep, WrongCast, WrongRecursion, OverLimit, CallerNotAllowed}
 use Rattle.term.specs.declared.word.Meaning.{Meaning}
-use Rattle.term.specs.declared.word.Meaning.the-variants.{Star, CastDown, Application, CastUp, Abstraction, Product, Recursion, Variable, Nothing}
+use Rattle.term.specs.declared.word.Meaning.the-variants.{Star, CastDown, Application, CastUp, Abstraction, Product, Recursion, Variable, Nothing, Name}
 use Rattle.term.specs.Found.{found-of}
 use Rattle.term.specs.Reasons.{reason-of}
 use Rattle.term.specs.Subterms.{reading-of}
@@ -97,6 +97,7 @@ meaning-from a-pi = Product
 meaning-from a-mu = Recursion
 meaning-from (a-variable i) = Variable i
 meaning-from nothing = Nothing
+meaning-from (a-name i) = Name i
 
 meaning-again : (m : Meaning) → meaning-from (meaning-of m) ≡ m
 meaning-again Star = refl
@@ -108,6 +109,7 @@ meaning-again Product = refl
 meaning-again Recursion = refl
 meaning-again (Variable i) = refl
 meaning-again Nothing = refl
+meaning-again (Name i) = refl
 
 pub meaning-of-injective : (a b : Meaning) → meaning-of a ≡ meaning-of b → a ≡ b
 meaning-of-injective = undone meaning-of meaning-from meaning-again

@@ -13,18 +13,18 @@ use types.Run.{OneOf}
 use denote.Enum.Declared.{tagOf}
 use Rattle.calculus.specs.Answer.{ok, refused, _>>=_, _>>_, require, no-meaning, level-65, unbound}
 use Rattle.calculus.specs.Meaning as calculus
-use Rattle.calculus.specs.Meaning.{a-variable, nothing, binds}
+use Rattle.calculus.specs.Meaning.{a-variable, binds}
 use Rattle.calculus.specs.Scan.{means, bound, test, Pending}
 use Rattle.calculus.proofs.Comparisons.{passed, both, gt-leb}
 use Rattle.term.specs.declared.word.Meaning.{Meaning}
-use Rattle.term.specs.declared.word.Meaning.the-variants.{Star, CastDown, Application, CastUp, Abstraction, Product, Recursion, Variable, Nothing}
+use Rattle.term.specs.declared.word.Meaning.the-variants.{Star, CastDown, Application, CastUp, Abstraction, Product, Recursion, Variable, Nothing, Name}
 use Rattle.term.specs.Word.{meaning-of, second}
 use Rattle.term.specs.Subterms.{inside, pending}
 use Rattle.term.proofs.word.Meaning.{the-type}
 
 module _ (m : calculus.Meaning) (room b p : ℕ) where
-  pub meaningless : m ≡ nothing → refused no-meaning p ≡ test m (pending room b) p
-  unfolding test means require _>>=_ _>>_
+  pub meaningless : means m ≡ false → refused no-meaning p ≡ test m (pending room b) p
+  unfolding test require _>>=_ _>>_
   meaningless h = rw h refl
 
   pub too-deep : T (means m) → room ≡ 0 → refused level-65 p ≡ test m (pending room b) p
@@ -61,9 +61,8 @@ pub variable-needs : {m : calculus.Meaning} (i n b : ℕ) → m ≡ a-variable i
 unfolding means bound
 variable-needs i n b e more = rw (e, more) refl
 
-pub nothing-needs : {m : calculus.Meaning} (n b : ℕ) → m ≡ nothing → b < n → leb n b ≡ inside m b
-unfolding means
-nothing-needs n b e few = rw (e, gt-leb n b few) refl
+pub nothing-needs : (m : calculus.Meaning) (n b : ℕ) → means m ≡ false → b < n → leb n b ≡ inside m b
+nothing-needs m n b e few = rw (e, gt-leb n b few) refl
 
 -- The place of a variant in its enum.
 abbrev pub tag : Meaning → ℕ
@@ -80,7 +79,24 @@ at-one P (k ∷ []) h x e = subst P (sym e) (h .0)
 at-one P (k ∷ k′ ∷ ks) h x (inl e) = subst P (sym e) (h .0)
 at-one P (k ∷ k′ ∷ ks) h x (inr r) = at-one P (k′ ∷ ks) (h .1) x r
 
-pub meant : (m : Meaning) → T (not (eqb (tag m) 8)) → T (means (meaning-of m))
+late : (m : Meaning) → T (leb 8 (tag m)) → means (meaning-of m) ≡ false
+unfolding means
+late Star h = elim h [ ]
+late CastDown h = elim h [ ]
+late Application h = elim h [ ]
+late CastUp h = elim h [ ]
+late Abstraction h = elim h [ ]
+late Product h = elim h [ ]
+late Recursion h = elim h [ ]
+late (Variable i) h = elim h [ ]
+late Nothing h = refl
+late (Name i) h = refl
+
+-- Of two variants the words are not read: those that mean nothing, and names.
+pub unread : (m : Meaning) → OneOf (8 ∷ 9 ∷ []) (tag m) → means (meaning-of m) ≡ false
+unread m one = late m (at-one (λ t. T (leb 8 t)) (8 ∷ 9 ∷ []) (tt, (tt, tt)) (tag m) one)
+
+pub meant : (m : Meaning) → T (not (leb 8 (tag m))) → T (means (meaning-of m))
 unfolding means
 meant Star h = tt
 meant CastDown h = tt
@@ -91,6 +107,7 @@ meant Product h = tt
 meant Recursion h = tt
 meant (Variable i) h = tt
 meant Nothing h = elim h [ ]
+meant (Name i) h = elim h [ ]
 
 -- A word of any variant but the variable is inside its binders, however many there are.
 bound-by-tag : (m : Meaning) → T (not (eqb (tag m) 7)) → (b : ℕ) → T (bound (meaning-of m) b)
@@ -104,29 +121,30 @@ bound-by-tag Product h b = tt
 bound-by-tag Recursion h b = tt
 bound-by-tag (Variable i) h b = elim h [ ]
 bound-by-tag Nothing h b = tt
+bound-by-tag (Name i) h b = tt
 
-pub no-variable : (m : Meaning) → OneOf (0 ∷ 1 ∷ 2 ∷ 3 ∷ 4 ∷ 5 ∷ 6 ∷ 8 ∷ []) (tag m) → (b : ℕ) → T (bound (meaning-of m) b)
+pub no-variable : (m : Meaning) → OneOf (0 ∷ 1 ∷ 2 ∷ 3 ∷ 4 ∷ 5 ∷ 6 ∷ 8 ∷ 9 ∷ []) (tag m) → (b : ℕ) → T (bound (meaning-of m) b)
 no-variable m one =
     bound-by-tag
     m
     (at-one
     (λ t. T (not (eqb t 7)))
-    (0 ∷ 1 ∷ 2 ∷ 3 ∷ 4 ∷ 5 ∷ 6 ∷ 8 ∷ [])
-    (tt, (tt, (tt, (tt, (tt, (tt, (tt, (tt, tt))))))))
+    (0 ∷ 1 ∷ 2 ∷ 3 ∷ 4 ∷ 5 ∷ 6 ∷ 8 ∷ 9 ∷ [])
+    (tt, (tt, (tt, (tt, (tt, (tt, (tt, (tt, (tt, tt)))))))))
     (tag m)
     one)
 
--- A word of any variant but the variable and the one that means nothing stands anywhere.
+-- A word of any variant that is read, but the variable, stands anywhere.
 pub anywhere : (m : Meaning) → OneOf (0 ∷ 1 ∷ 2 ∷ 3 ∷ 4 ∷ 5 ∷ 6 ∷ []) (tag m) → (b : ℕ) → inside (meaning-of m) b ≡ true
 anywhere m one b = rw (passed (means n) (meant m (neither .0)), passed (bound n b) (bound-by-tag m (neither .1) b)) refl
   where
     n : calculus.Meaning
     n = meaning-of m
 
-    neither : T (not (eqb (tag m) 8)) × T (not (eqb (tag m) 7))
+    neither : T (not (leb 8 (tag m))) × T (not (eqb (tag m) 7))
     neither =
         at-one
-        (λ t. T (not (eqb t 8)) × T (not (eqb t 7)))
+        (λ t. T (not (leb 8 t)) × T (not (eqb t 7)))
         (0 ∷ 1 ∷ 2 ∷ 3 ∷ 4 ∷ 5 ∷ 6 ∷ [])
         ((tt, tt), ((tt, tt), ((tt, tt), ((tt, tt), ((tt, tt), ((tt, tt), ((tt, tt), tt)))))))
         (tag m)
@@ -134,7 +152,7 @@ anywhere m one b = rw (passed (means n) (meant m (neither .0)), passed (bound n 
 
 -- What each variant binds in a second part, in the order of the enum.
 abbrev pub seconds : List ℕ
-seconds = 0 ∷ 0 ∷ 0 ∷ 0 ∷ 1 ∷ 1 ∷ 1 ∷ 0 ∷ 0 ∷ []
+seconds = 0 ∷ 0 ∷ 0 ∷ 0 ∷ 1 ∷ 1 ∷ 1 ∷ 0 ∷ 0 ∷ 0 ∷ []
 
 second-of : (m : Meaning) → getD seconds (tag m) 0 ≡ second (binds (meaning-of m))
 unfolding binds
@@ -147,6 +165,7 @@ second-of Product = refl
 second-of Recursion = refl
 second-of (Variable i) = refl
 second-of Nothing = refl
+second-of (Name i) = refl
 
 -- An arm for several variants that bind alike.
 pub second-by-tag : (m : Meaning) (k : ℕ) (tags : List ℕ)

@@ -1,5 +1,5 @@
--- What the words of each range mean, and how many parts follow them: the words from 7 to 15 and above 2,047 mean nothing, those
--- between are variables; the number of parts is the calculus' formula, and with what is bound in the second it tells them.
+-- What the words of each range mean, and how many parts follow them: the words from 7 to 15 and above 2,079 mean nothing, those
+-- between are variables and names; the number of parts is the calculus' formula, and with what is bound in the second it tells them.
 use Prim.Native.Nat.{ℕ, _+_, _-_, _≤_, _<_, min}
 use mathlib.Core.List.{List, [], _∷_}
 use mathlib.Core.Path.{_≡_, refl, sym, ap, _∙_}
@@ -8,7 +8,7 @@ use borrow.Author.Tests.{lt-ltb, le-ltb}
 use lib.Dec.{lit≤}
 use lib.ListN.{length, take, List·getD-eq-default}
 use lib.Seq.{take-all}
-use Rattle.calculus.specs.Meaning.{Meaning, a-star, a-castdown, an-app, a-castup, a-lam, a-pi, a-mu, a-variable, nothing, binds, meaning}
+use Rattle.calculus.specs.Meaning.{Meaning, a-star, a-castdown, an-app, a-castup, a-lam, a-pi, a-mu, a-variable, a-name, nothing, binds, meaning}
 use Rattle.calculus.specs.Scan.{means}
 use Rattle.calculus.proofs.Meanings.{nodes, parts-by-formula, word, word-meaning}
 use Rattle.term.specs.declared.word.Shape.{Shape}
@@ -27,9 +27,13 @@ pub variable-index : (w i : ℕ) → a-variable i ≡ meaning w → w ≡ 16 + i
 unfolding word means
 variable-index w i e = sym (word-meaning w (rw (← e) tt)) ∙ ap word (sym e)
 
-pub beyond : (w : ℕ) → 2048 ≤ w → meaning w ≡ nothing
+pub named : (w : ℕ) → 2048 ≤ w → w < 2080 → meaning w ≡ a-name (w - 2048)
 unfolding meaning
-beyond w low = rw (le-ltb w 16 (omega arith), le-ltb w 2048 low)
+named w low high = rw (le-ltb w 16 (omega arith), le-ltb w 2048 low, lt-ltb w 2080 high)
+
+pub beyond : (w : ℕ) → 2080 ≤ w → meaning w ≡ nothing
+unfolding meaning
+beyond w low = rw (le-ltb w 16 (omega arith), le-ltb w 2048 (omega arith), le-ltb w 2080 low)
 
 pub few-parts : (w : ℕ) → w < 7 → arity w ≡ min w 2
 unfolding arity
@@ -55,6 +59,7 @@ parted a-lam = two-parts 1 (lit≤ tt)
 parted a-pi = two-parts 1 (lit≤ tt)
 parted a-mu = two-parts 1 (lit≤ tt)
 parted (a-variable i) = no-part
+parted (a-name i) = no-part
 parted nothing = no-part
 
 -- So they are told by how many there are and by what is bound in the second.

@@ -4,7 +4,7 @@ use mathlib.Core.List.{List, [], _∷_}
 use lib.ListN.{length, getD, take}
 use Rattle.calculus.specs.Meaning as calculus
 use Rattle.term.specs.declared.word.Meaning.{Meaning}
-use Rattle.term.specs.declared.word.Meaning.the-variants.{Star, CastDown, Application, CastUp, Abstraction, Product, Recursion, Variable, Nothing}
+use Rattle.term.specs.declared.word.Meaning.the-variants.{Star, CastDown, Application, CastUp, Abstraction, Product, Recursion, Variable, Nothing, Name}
 use Rattle.term.specs.declared.word.Shape.{Shape}
 
 abbrev pub meaning-of : Meaning → calculus.Meaning
@@ -17,6 +17,7 @@ meaning-of Product = calculus.a-pi
 meaning-of Recursion = calculus.a-mu
 meaning-of (Variable i) = calculus.a-variable i
 meaning-of Nothing = calculus.nothing
+meaning-of (Name i) = calculus.a-name i
 
 -- The number of parts that follow a word.
 unfoldable pub arity : ℕ → ℕ

@@ -33,14 +33,14 @@ enum Visit {
     Refused(Reason),
 }
 
-// How many binders a word needs around it: a variable one more than its index, and a word that means nothing more than there ever
-// are. Of the sum on 16 bits the compiler makes no branch, as it does of one on 64 (docs/SHAPES.md).
+// How many binders a word needs around it: a variable one more than its index, and a word that means nothing, or a name, which no call
+// reads, more than there ever are. Of the sum on 16 bits the compiler makes no branch, as it does of one on 64 (docs/SHAPES.md).
 fn needed(word: u16) -> u16
     ensures { λ r. ⌜ ((b : ℕ) → b ≤ deepest → leb r b ≡ inside (meaning word) b) ⌝ }
 {
     match classify(word) {
         Meaning::Variable(index) => index + 1,
-        Meaning::Nothing => 65,
+        Meaning::Nothing | Meaning::Name(_) => 65,
         _ => 0,
     }
 }
@@ -56,8 +56,12 @@ fn tested(word: u16, room: usize, binders: usize) -> Visit
             return Visit::Passes;
         }
     }
-    if let Meaning::Nothing = classify(word) {
-        return Visit::Refused(Reason::NoMeaning);
+    let meaning = classify(word);
+    match meaning {
+        Meaning::Nothing | Meaning::Name(_) => {
+            return Visit::Refused(Reason::NoMeaning);
+        }
+        _ => {}
     }
     if room == 0 {
         return Visit::Refused(Reason::Level65);

@@ -15,6 +15,7 @@ pub enum Meaning {
     Product,
     Variable(u16),
     Nothing,
+    Name(u16),
 }
 
 // The one decision over a word.
@@ -31,6 +32,7 @@ pub fn classify(word: u16) -> Meaning
         6 => Meaning::Recursion,
         7..=15 => Meaning::Nothing,
         16..=2047 => Meaning::Variable(word - 16),
+        2048..=2079 => Meaning::Name(word - 2048),
         _ => Meaning::Nothing,
     }
 }

@@ -13,26 +13,28 @@ use Rattle.calculus.specs.Term.{Term, size}
 use Rattle.calculus.specs.Answer.{Answer, ok, refused}
 use Rattle.calculus.specs.Words.{words, levels, Readable, deepest}
 use Rattle.calculus.specs.Scan.{read}
-use Rattle.calculus.specs.Rules.{env-empty}
 use Rattle.calculus.specs.Book.{types, seen}
 use Rattle.calculus.specs.Step.{step}
-use Rattle.calculus.specs.Infer.{infer}
+use Rattle.calculus.specs.Infer.{infer, FittedContext}
 use Rattle.calculus.specs.Outcomes.{check-room, begun, cleared, check}
 use Rattle.calculus.specs.Checks.{Allowed, Checks, unread}
 use Rattle.calculus.proofs.Coding.{words-length}
 use Rattle.calculus.proofs.ReadBack.{refused-misread}
 use Rattle.calculus.proofs.CheckDemand.{check-answer, typed-answer, refused-answer}
-use Rattle.calculus.proofs.Books.{nothing-seen}
 use Rattle.term.specs.Reasons.{reason-of}
 use Rattle.term.specs.Subterms.{outcome}
 use Rattle.term.specs.declared.refusal.Refusal.{Refusal}
 use Rattle.term.proofs.Walking.{reads-refusal}
 use Rattle.term.specs.Kept.{kept}
+use Rattle.book.specs.declared.Reader.the-variants as reader
+use Rattle.book.specs.Layout.{decode, definitions}
+use Rattle.book.proofs.Entries.{holds-nothing}
 use Rattle.kept.proofs.Begun.{cleared-same}
 use Rattle.typing.specs.declared.Checked.{Checked}
 use Rattle.typing.specs.declared.Checked.the-variants as checked
 use Rattle.inference.specs.declared.Inferred.{Inferred}
 use Rattle.inference.specs.declared.Inferred.the-variants as inferred
+use Rattle.inference.specs.Moving.{next-of}
 use Rattle.inference.specs.Inference.{judge, Subject, Placed, Roomy, Infers, finds, refuses, inferred-of}
 use Rattle.typing.specs.Outcomes.{checked-of}
 use Rattle.inference.proofs.Scoping.{inferred-fits}
@@ -59,8 +61,8 @@ pub unread-out : (ws : List ℕ) {L : ℕ} {W O : List ℕ} (f : Refusal)
 unread-out ws f A e = refused-out {f = f} refl (unread (A .allowed) (A .room) (A .out) (refused-misread ws _ _ (reads-refusal ws e)))
 
 module _ {ws : List ℕ} {L : ℕ} {W O : List ℕ} {t : Term} (A : Admitted L W O) (coded : ws ≡ words t) (readable : Readable 0 t) where
-  pub whole : (places : List ℕ) → length places ≡ deepest → Subject [] t ws ws places 0
-  unfolding words Placed
+  pub whole : (places : List ℕ) → length places ≡ deepest → Subject [] [] t ws ws places 0
+  unfolding words Placed FittedContext decode definitions
   whole places enough =
       let none : length ws - length ws ≡ 0 = omega arith in
       record {
@@ -72,7 +74,8 @@ module _ {ws : List ℕ} {L : ℕ} {W O : List ℕ} {t : Term} (A : Admitted L W
         around = refl;
         placed = tt;
         wide = enough;
-        well-formed = env-empty;
+        holds = holds-nothing [];
+        fitted = tt;
         scoped = readable .closed;
         named = readable .named;
         deep = omega (arith, readable .shallow);
@@ -88,9 +91,10 @@ module _ {ws : List ℕ} {L : ℕ} {W O : List ℕ} {t : Term} (A : Admitted L W
             omega (arith, length-take-le (check-room L) W (A .room), mul-le-mul-right L few);
       }
 
--- Over the empty book every owner sees what inference is over.
-judged : (L : ℕ) (t : Term) → infer (types []) (step (seen 0 [])) L [] 0 t ≡ judge L [] 0 t
-judged L t = ap (λ v. infer (types []) (step v) L [] 0 t) (nothing-seen 0)
+-- No words spell the empty book.
+judged : (L : ℕ) (t : Term) → infer (types []) (step (seen 0 [])) L [] 0 t ≡ judge (reader.Owner 0) [] L [] 0 t
+unfolding next-of decode definitions
+judged L t = refl
 
 -- Inference was asked for the type of the whole term, answered `r` and left `after` in the first words of the working slice.
 pub record Asked (ws : List ℕ) (L : ℕ) (W O : List ℕ) (r : Inferred) (after : List ℕ) : Type 0 where
@@ -102,7 +106,7 @@ pub record Asked (ws : List ℕ) (L : ℕ) (W O : List ℕ) (r : Inferred) (afte
   pub outermost : place ≡ 0
   pub places : List ℕ
   pub places′ : List ℕ
-  pub infers : Infers (judge L [] place term) term places 0 (take (check-room L) W) 0 r after places′
+  pub infers : Infers (judge (reader.Owner 0) [] L [] place term) term places 0 (take (check-room L) W) 0 r after places′
   pub same : length after ≡ length (take (check-room L) W)
 
 module _ {ws : List ℕ} {L : ℕ} {W O : List ℕ} {r : Inferred} {after : List ℕ} (a : Asked ws L W O r after) where
@@ -125,7 +129,7 @@ module _ {ws : List ℕ} {L : ℕ} {W O : List ℕ} {r : Inferred} {after : List
       → work′ ≡ cleared (512 * (2 * L)) (after ++ drop (check-room L) W)
       → checked-of (checked.Refused f) work′ O ≡ check ws L W O
   untyped-out {f} q e =
-      let x = subst (λ n. judge L [] n term ≡ refused (reason-of (f .reason)) (f .place)) outermost (turned infers) in
+      let x = subst (λ n. judge (reader.Owner 0) [] L [] n term ≡ refused (reason-of (f .reason)) (f .place)) outermost (turned infers) in
       ap (λ w. checked-of (checked.Refused f) w O) (e ∙ cleared-all)
       ∙ sym (refused-answer [] 0 ws L W O allowed room out (coded, readable) (judged L term ∙ x))
     where
@@ -139,7 +143,7 @@ module _ {ws : List ℕ} {L : ℕ} {W O : List ℕ} {r : Inferred} {after : List
     open passing.Part (passing.typed infers q) using (type as τ, found, long as type-long, lies)
 
     type-short : m ≤ L
-    type-short = omega (arith, type-long, inferred-fits L place term env-empty (readable .closed) (readable .named) found)
+    type-short = omega (arith, type-long, inferred-fits (reader.Owner 0) [] L [] place term found)
 
     pub type-within : 2 * m ≤ length (after ++ drop (check-room L) W)
     type-within = omega (arith, type-short, long, length-append after (drop (check-room L) W))
@@ -156,7 +160,7 @@ module _ {ws : List ℕ} {L : ℕ} {W O : List ℕ} {r : Inferred} {after : List
         → work′ ≡ cleared (512 * (2 * L)) (after ++ drop (check-room L) W)
         → checked-of (checked.Typed m) work′ output′ ≡ check ws L W O
     typed-out {work′} {output′} s e =
-        let x = subst (λ k. judge L [] k term ≡ ok τ) outermost found in
+        let x = subst (λ k. judge (reader.Owner 0) [] L [] k term ≡ ok τ) outermost found in
         ap (λ k. checked-of (checked.Typed k) work′ output′) type-long
         ∙ ap (λ l. checked-of (checked.Typed (size τ)) l output′) (e ∙ cleared-all)
         ∙ ap (checked-of (checked.Typed (size τ)) (cleared (check-room L) W)) (s τ type-kept)

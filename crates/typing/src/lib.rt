@@ -1,4 +1,5 @@
 // The check (document 01, Calls): the type of a closed term within a limit, or the first rule that fails.
+use book::Reader;
 use inference::Inferred;
 use inference::infer;
 use kept::clearing::clear;
@@ -55,6 +56,8 @@ pub fn check(term: &[u16], limit: u32, work: &mut [u16], output: &mut [u16]) -> 
         0,
         longest,
         &mut held,
+        &term[..0],
+        Reader::Owner(0),
     ) {
         Inferred::Refused(refusal) => {
             clear(work, 2 * longest);

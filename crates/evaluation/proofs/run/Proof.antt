@@ -2,6 +2,7 @@
 -- run since what is read is a readable term, the smaller of budget and the caller's allowance is the grant, and the course is the
 -- calculus' course.
 use Prim.Native.Nat.{_*_, _≤_}
+use mathlib.Core.List.{[]}
 use mathlib.Core.Logic.{⊎-elim}
 use mathlib.Core.Path.{_≡_, sym, _∙_, ap, subst}
 use native.Mathlib.Omega.{arith}
@@ -10,13 +11,15 @@ use denote.Ref.{now}
 use borrow.Author.Needs.{needs}
 use Rattle.calculus.specs.Term.{Term}
 use Rattle.calculus.specs.Words.{Readable, words, longest}
+use Rattle.calculus.specs.Book.{bodies}
+use Rattle.calculus.specs.Step.{step}
 use Rattle.calculus.specs.Run.{run-from}
 use Rattle.calculus.specs.Outcomes.{grant}
 use Rattle.calculus.specs.Runs.{caller-refused, work-refused, state-refused, unread}
 use Rattle.calculus.proofs.ReadBack.{refused-misread}
 use Rattle.term.specs.Subterms.{reading-of}
 use Rattle.term.proofs.Walking.{reads-term, reads-refusal}
-use Rattle.reduction.specs.Stepping.{next-of}
+use Rattle.book.proofs.Entries.{holds-nothing}
 use Rattle.evaluation.specs.Courses.{Performs}
 use Rattle.evaluation.proofs.Answers.{meets-refusal, steps-within, meets-course}
 use Rattle.evaluation.proofs.run.Statement.{statement}
@@ -39,21 +42,21 @@ granted c =
     let e = c .before .allowance-of .ensures in
     ⊎-elim (λ w. omega (arith, e)) (λ w. omega (arith, e)) (c .if4 .came)
 
--- The course.
+-- The course, over the empty book.
 performed : (c : tie.After-perform)
-    → let told = c .before .before .before .before .before in
+    → let told = c .before .before .before .before .before .before in
     let a = told .before .before .before .before .before .before .before .before .before .args in
-    Performs (run-from next-of (grant (a .budget) (a .caller) (a .desk .allowances)) (term-read told .0)) (now (a .work)) (now (a .state))
-    (c .perform .result) (c .perform .last .1 .1 .0) (c .perform .last .1 .1 .1 .0)
+    Performs (run-from (step (bodies [])) (grant (a .budget) (a .caller) (a .desk .allowances)) (term-read told .0)) (now (a .work))
+    (now (a .state)) (c .perform .result) (c .perform .last .1 .1 .0) (c .perform .last .1 .1 .1 .0)
 performed c =
-    let told = c .before .before .before .before .before in
+    let told = c .before .before .before .before .before .before in
     let a = told .before .before .before .before .before .before .before .before .before .args in
     let (t, e, r) = term-read told in
     subst
     (λ g.
-    Performs (run-from next-of g t) (now (a .work)) (now (a .state)) (c .perform .result) (c .perform .last .1 .1 .0)
+    Performs (run-from (step (bodies [])) g t) (now (a .work)) (now (a .state)) (c .perform .result) (c .perform .last .1 .1 .0)
     (c .perform .last .1 .1 .1 .0))
-    (granted (c .before .before .before)) (c .perform .ensures t e r)
+    (granted (c .before .before .before .before)) (c .perform .ensures [] t (holds-nothing _) e r)
 
 returns : tie.Need-returns
 returns c =
@@ -87,28 +90,30 @@ returns-4 c =
 
 perform-requires : tie.Need-perform-requires
 perform-requires c κs =
-    let else = c .before .before .before .before .before .before .before in
+    let else = c .before .before .before .before .before .before .before .before in
     let a = else .before .before .before .before .before .before .args in
     let l : 2 * longest ≤ length (now (a .work)) = omega (arith, else .before .if2 .left) in
-    (l, else .if3 .left, term-read (c .before .before .before .before))
+    let (t, e, r) = term-read (c .before .before .before .before .before) in
+    (l, else .if3 .left, ([], t, holds-nothing _, e, r))
 
 settle-requires : tie.Need-settle-requires
 settle-requires c κs =
     let perform = c .before .before .before .before .before in
-    let else = perform .before .before .before .before .before .before .before .before in
-    let (t, e, r) = term-read (perform .before .before .before .before .before) in
-    let within = steps-within (perform .before .before .before .if4 .grant) r (perform .perform .ensures t e r) in (
+    let else = perform .before .before .before .before .before .before .before .before .before in
+    let (t, e, r) = term-read (perform .before .before .before .before .before .before) in
+    let course = perform .perform .ensures [] t (holds-nothing _) e r in
+    let within = steps-within [] (perform .before .before .before .before .if4 .grant) r course in (
       omega (arith, else .before .if2 .left, perform .perform .kept .1 .1 .0),
-      (else .before .before .if1 .left, omega (arith, within, granted (perform .before .before .before))),
+      (else .before .before .if1 .left, omega (arith, within, granted (perform .before .before .before .before))),
     )
 
 returns-5 : tie.Need-returns-5
 returns-5 c =
     let settle = c .before .before in
     let perform = settle .before .before .before .before .before .before in
-    let else = perform .before .before .before .before .before .before .before .before in
+    let else = perform .before .before .before .before .before .before .before .before .before in
     let a = else .before .before .before .before .before .before .args in
-    let (t, e, r) = term-read (perform .before .before .before .before .before) in
+    let (t, e, r) = term-read (perform .before .before .before .before .before .before) in
     meets-course (now (a .term)) (a .budget) (a .caller) (a .desk .allowances) (now (a .work)) (now (a .state)) e r
     (performed perform) (else .before .before .if1 .left) (else .before .if2 .left) (else .if3 .left)
     (settle .settle .ensures (perform .perform .last .1 .1 .1 .0))
@@ -118,5 +123,5 @@ run-spec =
     tie.close
     (tie.spec
     (λ c κs. search needs) returns (λ c κs. search needs) returns-2 (λ c κs. search needs) returns-3 (λ c κs. search needs)
-    (λ c. search needs) (λ c κs. search needs) returns-4 (λ c. search needs) (λ c κs. search needs) perform-requires settle-requires
-    (λ c. search needs) (λ c. search needs) returns-5)
+    (λ c. search needs) (λ c κs. search needs) returns-4 (λ c. search needs) (λ c κs. search needs) (λ c. search needs)
+    perform-requires settle-requires (λ c. search needs) (λ c. search needs) returns-5)

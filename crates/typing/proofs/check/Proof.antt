@@ -59,19 +59,19 @@ slice-aggregate-infer c =
 
 infer-requires : tie.Need-infer-requires
 infer-requires c κs =
-    let A = admitted (c .before .before .before .before .before .before) in
-    let g = term-read (c .before .before .before) in
+    let A = admitted (c .before .before .before .before .before .before .before) in
+    let g = term-read (c .before .before .before .before) in
     (refl, ([], g .0, whole A (g .1) (g .2) _ refl, roomy A (g .1) (g .2)))
 
 -- Past inference.
 asked : (c : tie.After-infer)
-    → let else = c .before .before .before .before .before .before .before in
+    → let else = c .before .before .before .before .before .before .before .before in
     let a = else .before .before .before .before .before .before .before .args in
     Asked (a .term .now) (a .limit) (a .work .now) (a .output .now) (c .infer .result) (c .infer .last .1 .1 .1 .1 .0)
 asked c =
-    let else = c .before .before .before .before .before .before .before in
+    let else = c .before .before .before .before .before .before .before .before in
     let A = admitted else in
-    let g = term-read (c .before .before .before .before) in
+    let g = term-read (c .before .before .before .before .before) in
     let ws = else .before .before .before .before .before .before .before .args .term .now in
     record {
       admitted = A;
@@ -122,7 +122,7 @@ check-spec =
     (tie.spec
     (λ c κs. search needs) returns (λ c κs. search needs) returns-2 (λ c. search needs) (λ c κs. search needs) returns-3
     (λ c κs. search needs) returns-4 (λ c κs. search needs) (λ c. search needs) returns-5 (λ c. search needs) (λ c. search needs)
-    (λ c. search needs) slice-aggregate-infer (λ c. search needs) infer-requires (λ c. search needs) (λ c. search needs)
+    (λ c. search needs) slice-aggregate-infer (λ c. search needs) (λ c. search needs) infer-requires (λ c. search needs) (λ c. search needs)
     (λ c κs. search needs) (λ c. search needs) mul-spell slice-reshare-prefix-spell
     (λ c. sym (length-take-le _ _ (slice-reshare-prefix-spell (c .before)))) spell-requires (λ c. search needs)
     (λ c κs. search needs) (λ c. search needs) returns-6 (λ c. search needs) (λ c. search needs) returns-7)

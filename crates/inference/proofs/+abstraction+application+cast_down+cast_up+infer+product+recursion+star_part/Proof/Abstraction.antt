@@ -23,7 +23,7 @@ use Rattle.inference.proofs.+abstraction+application+cast_down+cast_up+
 
 star-part-requires : (t : ℕ) → abstraction-lts.Need-star-part-requires (abstraction-claims t) (abstraction-at t) abstraction.Post
 star-part-requires t c κs =
-    let start = c .before .before .before .before .before .before .before .before in
+    let start = c .before .before .before .before .before .before .before .before .before in
     let P = start .pre .1 .1 in
     part-asked 0 2 (omega arith) (start .pre .0) (P .3) (P .4) (first (P .3) of-lam) (two-levels of-lam .0) refl (omega arith)
     (start .pre .1 .0)
@@ -32,7 +32,7 @@ returns : (t : ℕ) → abstraction-lts.Need-returns (abstraction-claims t) (abs
 returns t c Γ a e S =
     let after-star-part = c .before .before .before .before .before .before in
     passed _ (after-star-part .star-part .ensures Γ a (first S of-lam)) (c .enum-told .given .1)
-    (lam-annotation _ Γ _ _ a e (place-first S))
+    (lam-annotation _ _ _ Γ _ _ a e (place-first S))
 
 add-infer-2 : (t : ℕ) → abstraction-lts.Need-add-infer-2 (abstraction-claims t) (abstraction-at t) abstraction.Post
 add-infer-2 t c =
@@ -49,7 +49,7 @@ infer-requires t c κs =
     let start = start-place t after-known-told in
     let P = start .pre .1 .1 in
     let A = typed-annotation t after-known-told (P .0) (P .1) (P .2) (P .3) in
-    let E = below (P .3) _ A (after-narrow .narrow .result) of-lam (after-narrow .narrow .ensures) in
+    let E = below (P .3) _ _ A (after-narrow .narrow .result) of-lam (after-narrow .narrow .ensures) in
     part-asked (after-known-told .before .annotation .given .0 .0) 1 (omega arith) (start .pre .0) (P .3) (P .4) E
     (two-levels of-lam .1)
     (star-part .kept .1 .1 .1 .1 .0) (omega (arith, skips t joined1 .0))
@@ -61,8 +61,8 @@ returns-2 t c Γ a e S =
     let after-narrow = after-infer .before .before .before .before .before .before .before in
     let A = typed-annotation t (after-narrow .before) Γ a e S in
     passed _
-    (after-infer .infer .ensures (a ∷ Γ) e (below S _ A (after-narrow .narrow .result) of-lam (after-narrow .narrow .ensures)))
-    (c .enum-told2 .given .1) (lam-body _ Γ _ _ a e (annotation-found S _ A) (second-place S _ A (of-lam {e = e})))
+    (after-infer .infer .ensures (a ∷ Γ) e (below S _ _ A (after-narrow .narrow .result) of-lam (after-narrow .narrow .ensures)))
+    (c .enum-told2 .given .1) (lam-body _ _ _ Γ _ _ a e (annotation-found S _ _ A) (second-place S _ _ A (of-lam {e = e})))
 
 returns-3 : (t : ℕ) → abstraction-lts.Need-returns-3 (abstraction-claims t) (abstraction-at t) abstraction.Post
 unfolding size
@@ -77,7 +77,7 @@ note-requires t c κs =
     let start = start-place t after-known-told in
     let P = start .pre .1 .1 in
     let A = typed-annotation t after-known-told (P .0) (P .1) (P .2) (P .3) in
-    annotation-asked (P .3) _ A (start .args .top + 1) (of-lam {e = P .2})
+    annotation-asked (P .3) _ _ A (start .args .top + 1) (of-lam {e = P .2})
     (simp length-set (omega (arith, room t after-known-told2, c .before .before .before .if2 .left)))
 
 same-length-7 : (t : ℕ) → abstraction-lts.Need-same-length-7 (abstraction-claims t) (abstraction-at t) abstraction.Post
@@ -117,9 +117,9 @@ returns-4 t c Γ a e S =
 pub abstraction-part : (M : Type 1) (t : ℕ) → abstraction-lts.Closed (abstraction-claims t) (abstraction-at t) abstraction.Post M
 abstraction-part M t =
     abstraction-lts.spec (abstraction-claims t) (abstraction-at t) abstraction.Post
-    (λ c. c .before .before .before .before .pre .1 .1 .3 .within)
-    (λ c. subject-some (c .before .before .before .before .pre .1 .1 .3))
-    (λ c. subject-some (c .before .before .before .before .pre .1 .1 .3)) (λ c. le-refl _) (star-part-requires t)
+    (λ c. c .before .before .before .before .before .pre .1 .1 .3 .within)
+    (λ c. subject-some (c .before .before .before .before .before .pre .1 .1 .3))
+    (λ c. subject-some (c .before .before .before .before .before .pre .1 .1 .3)) (λ c. le-refl _) (star-part-requires t)
     (λ c. c .match .keys1) (λ c. c .match .keys2)
     (λ c. c .before .before .before .before .before .before .star-part .kept .1 .1 .1 .1 .0)
     (λ c. c .before .before .before .before .before .before .star-part .kept .1 .1 .1 .1 .1 .1 .1 .0) (returns t)

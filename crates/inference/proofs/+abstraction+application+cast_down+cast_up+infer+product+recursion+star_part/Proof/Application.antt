@@ -27,7 +27,7 @@ use Rattle.inference.proofs.+abstraction+application+cast_down+cast_up+
 
 infer-requires : (t : ℕ) → application-lts.Need-infer-requires (application-claims t) (application-at t) application.Post
 infer-requires t c κs =
-    let start = c .before .before .before .before .before .before .before .before in
+    let start = c .before .before .before .before .before .before .before .before .before in
     let P = start .pre .1 .1 in
     part-asked 0 1 (omega arith) (start .pre .0) (P .3) (P .4) (first (P .3) of-app) (two-levels of-app .0) refl (omega arith)
     (start .pre .1 .0)
@@ -35,15 +35,15 @@ infer-requires t c κs =
 returns : (t : ℕ) → application-lts.Need-returns (application-claims t) (application-at t) application.Post
 returns t c Γ f u S =
     passed _ (c .before .before .before .before .before .before .infer .ensures Γ f (first S of-app)) (c .enum-told .given .1)
-    (by-function _ Γ _ f u (place-first S))
+    (by-function _ _ _ Γ _ f u (place-first S))
 
 returns-2 : (t : ℕ) → application-lts.Need-returns-2 (application-claims t) (application-at t) application.Post
 returns-2 t c Γ f u S =
     let function = typed-function t (c .before .before .before .before .before) Γ f u S in
     let classify = c .before .before .classify in
     turned
-    (no-function _ Γ _ f u (function-found S _ function)
-    (other-type S _ function λ x. not-product (classify .result) (c .before .match2 .keys2) (classify .ensures ∙ x)))
+    (no-function _ _ _ Γ _ f u (function-found S _ _ function)
+    (other-type S _ _ function λ x. not-product (classify .result) (c .before .match2 .keys2) (classify .ensures ∙ x)))
     (c .refused .ensures)
 
 infer-requires-2 : (t : ℕ) → application-lts.Need-infer-requires-2 (application-claims t) (application-at t) application.Post
@@ -53,9 +53,9 @@ infer-requires-2 t c κs =
     let start = start-place t after-function in
     let P = start .pre .1 .1 in
     let function = typed-function t after-function (P .0) (P .1) (P .2) (P .3) in
-    let fits = type-fits (first (P .3) of-app) _ _ (function .found) in
+    let fits = type-fits (first (P .3) of-app) (start .args .reader) (start .args .limit) _ (function .found) in
     part-asked (after-function .function .given .0 .0) 1 (omega arith) (start .pre .0) (P .3) (P .4)
-    (argument-subject (P .3) _ function)
+    (argument-subject (P .3) _ _ function)
     (two-levels of-app .1) (function-infer .kept .1 .1 .1 .1 .0) (omega (arith, function .long, fits))
     (function-infer .kept .1 .1 .1 .1 .1 .1 .1 .0 ∙ start .pre .1 .0)
 
@@ -63,10 +63,10 @@ returns-3 : (t : ℕ) → application-lts.Need-returns-3 (application-claims t) 
 returns-3 t c Γ f u S =
     let told = c .before .before .before .before .before .before .before .before .before .before .before in
     let function = typed-function t (told .before .before .before .before .before) Γ f u S in
-    passed _ (c .before .before .before .before .before .before .infer2 .ensures Γ u (argument-subject S _ function))
+    passed _ (c .before .before .before .before .before .before .infer2 .ensures Γ u (argument-subject S _ _ function))
     (c .enum-told3 .given .1)
-    (by-argument _ Γ _ f u
-    (function-product S _ function (ap meaning-of (sym (told .enum-told2 .given .1)) ∙ told .before .before .classify .ensures))
+    (by-argument _ _ _ Γ _ f u
+    (function-product S _ _ function (ap meaning-of (sym (told .enum-told2 .given .1)) ∙ told .before .before .classify .ensures))
     (place-second S of-app _ (ap (λ k. 1 + k) (function .read))))
 
 apply-requires : (t : ℕ) → application-lts.Need-apply-requires (application-claims t) (application-at t) application.Post
@@ -84,7 +84,7 @@ apply-requires t c κs =
         P .4 .allowed,
         omega (arith, C .fits, C .own-fits, room, l),
         called-product C (P .3) (P .4 .allowed),
-        subject-codes (argument-subject (P .3) _ function) _ (argument-words (P .3) _ function (C .further))
+        subject-codes (argument-subject (P .3) _ _ function) _ (argument-words (P .3) _ _ function (C .further))
             (eqb-true (start .args .depth) 0),
       ),
     )
@@ -94,7 +94,7 @@ returns-4 t c Γ f u S =
     let after-apply = c .before .before .before .before .before .before .before in
     let C = calls t (after-apply .before .before .before .before) Γ f u S in
     turned
-    (wrong _ Γ _ f u (C .function) (C .argument) (says-wrong (applies t after-apply Γ f u S) (c .before .enum-told4 .given .1)))
+    (wrong _ _ _ Γ _ f u (C .function) (C .argument) (says-wrong (applies t after-apply Γ f u S) (c .before .enum-told4 .given .1)))
     (c .refused2 .ensures)
 
 returns-5 : (t : ℕ) → application-lts.Need-returns-5 (application-claims t) (application-at t) application.Post
@@ -124,9 +124,9 @@ returns-6 t c Γ f u S =
 pub application-part : (M : Type 1) (t : ℕ) → application-lts.Closed (application-claims t) (application-at t) application.Post M
 application-part M t =
     application-lts.spec (application-claims t) (application-at t) application.Post
-    (λ c. c .before .before .before .before .pre .1 .1 .3 .within)
-    (λ c. subject-some (c .before .before .before .before .pre .1 .1 .3))
-    (λ c. subject-some (c .before .before .before .before .pre .1 .1 .3)) (λ c. le-refl _) (infer-requires t)
+    (λ c. c .before .before .before .before .before .pre .1 .1 .3 .within)
+    (λ c. subject-some (c .before .before .before .before .before .pre .1 .1 .3))
+    (λ c. subject-some (c .before .before .before .before .before .pre .1 .1 .3)) (λ c. le-refl _) (infer-requires t)
     (λ c. c .match .keys1) (λ c. c .match .keys2)
     (λ c. c .before .before .before .before .before .before .infer .kept .1 .1 .1 .1 .0)
     (λ c. c .before .before .before .before .before .before .infer .kept .1 .1 .1 .1 .1 .1 .1 .0) (returns t)

@@ -12,7 +12,7 @@ use Rattle.calculus.specs.Step.{step}
 use Rattle.calculus.proofs.Testing.{fitting, over}
 use Rattle.inference.proofs.Nodes.{of-castup, two-levels}
 use Rattle.inference.proofs.Subjects.{subject-some, first, place-first}
-use Rattle.inference.proofs.Rooms.{subject-codes}
+use Rattle.inference.proofs.Rooms.{subject-within}
 use Rattle.inference.proofs.Passing.{found, passed, turned}
 use Rattle.inference.proofs.Parts.{annotation-asked, annotation-found, second-place, beside, both-reach}
 use Rattle.inference.proofs.Moved.{moved-front, over-limit, rests}
@@ -22,11 +22,11 @@ use Rattle.inference.proofs.cast_up.Reads as cast-up
 use Rattle.inference.proofs.+abstraction+application+cast_down+cast_up+infer+product+recursion+star_part.Lts-cast_up as cast-up-lts
 use Rattle.inference.proofs.+abstraction+application+cast_down+cast_up+infer+product+recursion+star_part.Proof.Measures.{cast-up-at, cast-up-claims, part-asked}
 use Rattle.inference.proofs.+abstraction+application+cast_down+cast_up+infer+product+recursion+star_part.Proof.CastUp.Known.{start-place, annotation-place, stepped-place, typed-annotation, reach, noted, both, long, held-long, room, moves, long-still, held-still, next-state, room-next, compared}
-use Rattle.reduction.specs.Stepping.{next-of}
+use Rattle.inference.specs.Moving.{next-of}
 
 star-part-requires : (t : ℕ) → cast-up-lts.Need-star-part-requires (cast-up-claims t) (cast-up-at t) cast-up.Post
 star-part-requires t c κs =
-    let start = c .before .before .before .before .before .before .before .before in
+    let start = c .before .before .before .before .before .before .before .before .before in
     let P = start .pre .1 .1 in
     part-asked 0 2 (omega arith) (start .pre .0) (P .3) (P .4) (first (P .3) of-castup) (two-levels of-castup .0) refl
     (omega arith)
@@ -36,7 +36,7 @@ returns : (t : ℕ) → cast-up-lts.Need-returns (cast-up-claims t) (cast-up-at 
 returns t c Γ a e S =
     let after-star-part = c .before .before .before .before .before .before in
     passed _ (after-star-part .star-part .ensures Γ a (first S of-castup)) (c .enum-told .given .1)
-    (up-annotation _ Γ _ _ a e (place-first S))
+    (up-annotation _ _ _ Γ _ _ a e (place-first S))
 
 infer-requires : (t : ℕ) → cast-up-lts.Need-infer-requires (cast-up-claims t) (cast-up-at t) cast-up.Post
 infer-requires t c κs =
@@ -45,7 +45,7 @@ infer-requires t c κs =
     let start = start-place t after-known-told in
     let P = start .pre .1 .1 in
     let A = typed-annotation t after-known-told (P .0) (P .1) (P .2) (P .3) in
-    let E = beside (P .3) _ A of-castup in
+    let E = beside (P .3) _ _ A of-castup in
     part-asked (after-known-told .before .annotation .given .0 .0) 1 (omega arith) (start .pre .0) (P .3) (P .4) E
     (two-levels of-castup .1) (star-part .kept .1 .1 .1 .1 .0) (omega arith)
     (star-part .kept .1 .1 .1 .1 .1 .1 .1 .0 ∙ start .pre .1 .0)
@@ -54,8 +54,8 @@ returns-2 : (t : ℕ) → cast-up-lts.Need-returns-2 (cast-up-claims t) (cast-up
 returns-2 t c Γ a e S =
     let after-infer = c .before .before .before .before .before .before in
     let A = typed-annotation t (after-infer .before .before .before .before .before) Γ a e S in
-    passed _ (after-infer .infer .ensures Γ e (beside S _ A of-castup)) (c .enum-told2 .given .1)
-    (up-body _ Γ _ _ a e (annotation-found S _ A) (second-place S _ A (of-castup {e = e})))
+    passed _ (after-infer .infer .ensures Γ e (beside S _ _ A of-castup)) (c .enum-told2 .given .1)
+    (up-body _ _ _ Γ _ _ a e (annotation-found S _ _ A) (second-place S _ _ A (of-castup {e = e})))
 
 step-into-requires : (t : ℕ) → cast-up-lts.Need-step-into-requires (cast-up-claims t) (cast-up-at t) cast-up.Post
 step-into-requires t c κs =
@@ -69,7 +69,8 @@ step-into-requires t c κs =
       (
         omega arith,
         P .4 .allowed,
-        subject-codes F (eqb (start .args .depth) 0) (noted t after-known-told (P .0) (P .1) (P .2) (P .3))
+        P .3 .holds,
+        subject-within F (eqb (start .args .depth) 0) (noted t after-known-told (P .0) (P .1) (P .2) (P .3))
             (eqb-true (start .args .depth) 0),
       ),
     )
@@ -80,13 +81,13 @@ returns-3 t c Γ a e S =
     turned
     (up-rests
     (both t (after-step-into .before .before .before .before) Γ a e S)
-    (rests _ _ _ _ _ _ (next-of a) (moves t after-step-into Γ a e S) (c .before .match3 .keys1)))
+    (rests _ _ _ _ _ _ (next-of _ _ a) (moves t after-step-into Γ a e S) (c .before .match3 .keys1)))
     (c .refused .ensures)
 
 returns-4 : (t : ℕ) → cast-up-lts.Need-returns-4 (cast-up-claims t) (cast-up-at t) cast-up.Post
 returns-4 t c Γ a e S =
     let after-step-into = c .before .before .before .before .before .before .before in
-    let o = over-limit _ _ _ _ _ (next-of a) (moves t after-step-into Γ a e S) (c .before .enum-told3 .given .1) in
+    let o = over-limit _ _ _ _ _ (next-of _ _ a) (moves t after-step-into Γ a e S) (c .before .enum-told3 .given .1) in
     turned (up-step-over (both t (after-step-into .before .before .before .before) Γ a e S) (o .1) (o .2) (o .3))
     (c .refused2 .ensures)
 
@@ -121,11 +122,11 @@ note-requires t c κs =
     let P = start .pre .1 .1 in
     let A = typed-annotation t after-known-told (P .0) (P .1) (P .2) (P .3) in
     let r = room t after-known-told2 in
-    annotation-asked (P .3) _ A (start .args .top) (of-castup {e = P .2})
+    annotation-asked (P .3) _ _ A (start .args .top) (of-castup {e = P .2})
     (omega (arith, after-step-into .step-into .kept .1 .1 .0, c .before .before .if2 .left))
 
-add-t21 : (t : ℕ) → cast-up-lts.Need-add-t21 (cast-up-claims t) (cast-up-at t) cast-up.Post
-add-t21 t c =
+add-t23 : (t : ℕ) → cast-up-lts.Need-add-t23 (cast-up-claims t) (cast-up-at t) cast-up.Post
+add-t23 t c =
     let after-step-into = stepped-place t (c .before .before .before .before .before .before .before) in
     let after-known-told2 = after-step-into .before .before .before .before in
     let P = start-place t (annotation-place t after-known-told2) .pre .1 .1 in
@@ -156,9 +157,9 @@ returns-7 t c Γ a e S =
 pub cast-up-part : (M : Type 1) (t : ℕ) → cast-up-lts.Closed (cast-up-claims t) (cast-up-at t) cast-up.Post M
 cast-up-part M t =
     cast-up-lts.spec (cast-up-claims t) (cast-up-at t) cast-up.Post
-    (λ c. c .before .before .before .before .pre .1 .1 .3 .within)
-    (λ c. subject-some (c .before .before .before .before .pre .1 .1 .3))
-    (λ c. subject-some (c .before .before .before .before .pre .1 .1 .3)) (λ c. le-refl _) (star-part-requires t)
+    (λ c. c .before .before .before .before .before .pre .1 .1 .3 .within)
+    (λ c. subject-some (c .before .before .before .before .before .pre .1 .1 .3))
+    (λ c. subject-some (c .before .before .before .before .before .pre .1 .1 .3)) (λ c. le-refl _) (star-part-requires t)
     (λ c. c .match .keys1) (λ c. c .match .keys2)
     (λ c. c .before .before .before .before .before .before .star-part .kept .1 .1 .1 .1 .0)
     (λ c. c .before .before .before .before .before .before .star-part .kept .1 .1 .1 .1 .1 .1 .1 .0) (returns t)
@@ -180,7 +181,7 @@ cast-up-part M t =
     (returns-5 t) (λ c κs. tt) (λ c. long-still t (stepped-place t (c .before .before .before)))
     (λ c. held-still t (stepped-place t (c .before .before .before))) (returns-6 t) (λ c. omega arith) (λ c. omega arith)
     (λ c. omega (arith, reach t (annotation-place t (stepped-place t (c .before .before) .before .before .before .before))))
-    (note-requires t) (add-t21 t)
+    (note-requires t) (add-t23 t)
     (λ c. c .before .before .note .kept .1 .0 ∙ long-still t
     (stepped-place t (c .before .before .before .before .before .before .before)))
     (λ c. held-still t (stepped-place t (c .before .before .before .before .before .before .before))) (returns-7 t)

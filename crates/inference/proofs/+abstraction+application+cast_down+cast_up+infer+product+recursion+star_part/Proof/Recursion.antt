@@ -27,7 +27,7 @@ use Rattle.inference.proofs.+abstraction+application+cast_down+cast_up+
 
 star-part-requires : (t : ℕ) → recursion-lts.Need-star-part-requires (recursion-claims t) (recursion-at t) recursion.Post
 star-part-requires t c κs =
-    let start = c .before .before .before .before .before .before .before .before in
+    let start = c .before .before .before .before .before .before .before .before .before in
     let P = start .pre .1 .1 in
     part-asked 0 2 (omega arith) (start .pre .0) (P .3) (P .4) (first (P .3) of-mu) (two-levels of-mu .0) refl (omega arith)
     (start .pre .1 .0)
@@ -36,7 +36,7 @@ returns : (t : ℕ) → recursion-lts.Need-returns (recursion-claims t) (recursi
 returns t c Γ a e S =
     let after-star-part = c .before .before .before .before .before .before in
     passed _ (after-star-part .star-part .ensures Γ a (first S of-mu)) (c .enum-told .given .1)
-    (mu-annotation _ Γ _ _ a e (place-first S))
+    (mu-annotation _ _ _ Γ _ _ a e (place-first S))
 
 infer-requires : (t : ℕ) → recursion-lts.Need-infer-requires (recursion-claims t) (recursion-at t) recursion.Post
 infer-requires t c κs =
@@ -46,7 +46,7 @@ infer-requires t c κs =
     let start = start-place t after-known-told in
     let P = start .pre .1 .1 in
     let A = typed-annotation t after-known-told (P .0) (P .1) (P .2) (P .3) in
-    let E = below (P .3) _ A (after-narrow .narrow .result) of-mu (after-narrow .narrow .ensures) in
+    let E = below (P .3) _ _ A (after-narrow .narrow .result) of-mu (after-narrow .narrow .ensures) in
     part-asked (after-known-told .before .annotation .given .0 .0) 1 (omega arith) (start .pre .0) (P .3) (P .4) E
     (two-levels of-mu .1)
     (star-part .kept .1 .1 .1 .1 .0) (omega arith) (star-part .kept .1 .1 .1 .1 .1 .1 .1 .0 ∙ start .pre .1 .0)
@@ -57,8 +57,8 @@ returns-2 t c Γ a e S =
     let after-narrow = after-infer .before .before .before .before .before in
     let A = typed-annotation t (after-narrow .before) Γ a e S in
     passed _
-    (after-infer .infer .ensures (a ∷ Γ) e (below S _ A (after-narrow .narrow .result) of-mu (after-narrow .narrow .ensures)))
-    (c .enum-told2 .given .1) (mu-body _ Γ _ _ a e (annotation-found S _ A) (second-place S _ A (of-mu {e = e})))
+    (after-infer .infer .ensures (a ∷ Γ) e (below S _ _ A (after-narrow .narrow .result) of-mu (after-narrow .narrow .ensures)))
+    (c .enum-told2 .given .1) (mu-body _ _ _ Γ _ _ a e (annotation-found S _ _ A) (second-place S _ _ A (of-mu {e = e})))
 
 returns-3 : (t : ℕ) → recursion-lts.Need-returns-3 (recursion-claims t) (recursion-at t) recursion.Post
 returns-3 t c Γ a e S =
@@ -73,7 +73,7 @@ note-requires t c κs =
     let start = start-place t after-known-told in
     let P = start .pre .1 .1 in
     let A = typed-annotation t after-known-told (P .0) (P .1) (P .2) (P .3) in
-    annotation-asked (P .3) _ A (start .args .top + after-known-told2 .before .body .given .0 .1 .0) (of-mu {e = P .2})
+    annotation-asked (P .3) _ _ A (start .args .top + after-known-told2 .before .body .given .0 .1 .0) (of-mu {e = P .2})
     (omega (arith, room t after-known-told2, c .before .before .if1 .left))
 
 raise-requires : (t : ℕ) → recursion-lts.Need-raise-requires (recursion-claims t) (recursion-at t) recursion.Post
@@ -95,11 +95,11 @@ note-requires-2 t c κs =
     let start = start-place t after-known-told in
     let P = start .pre .1 .1 in
     let A = typed-annotation t after-known-told (P .0) (P .1) (P .2) (P .3) in
-    annotation-asked (P .3) _ A (start .args .top) (of-mu {e = P .2})
+    annotation-asked (P .3) _ _ A (start .args .top) (of-mu {e = P .2})
     (omega (arith, room-raised t after-raise, after-raise .before .before .before .before .before .before .before .if1 .left))
 
-add-t35 : (t : ℕ) → recursion-lts.Need-add-t35 (recursion-claims t) (recursion-at t) recursion.Post
-add-t35 t c =
+add-t37 : (t : ℕ) → recursion-lts.Need-add-t37 (recursion-claims t) (recursion-at t) recursion.Post
+add-t37 t c =
     let after-raise = raised-place t (c .before .before .before .before .before .before) in
     let after-known-told2 = after-raise .before .before .before .before .before .before .before .before in
     let P = start-place t (annotation-place t after-known-told2) .pre .1 .1 in
@@ -131,9 +131,9 @@ returns-5 t c Γ a e S =
 pub recursion-part : (M : Type 1) (t : ℕ) → recursion-lts.Closed (recursion-claims t) (recursion-at t) recursion.Post M
 recursion-part M t =
     recursion-lts.spec (recursion-claims t) (recursion-at t) recursion.Post
-    (λ c. c .before .before .before .before .pre .1 .1 .3 .within)
-    (λ c. subject-some (c .before .before .before .before .pre .1 .1 .3))
-    (λ c. subject-some (c .before .before .before .before .pre .1 .1 .3)) (λ c. le-refl _) (star-part-requires t)
+    (λ c. c .before .before .before .before .before .pre .1 .1 .3 .within)
+    (λ c. subject-some (c .before .before .before .before .before .pre .1 .1 .3))
+    (λ c. subject-some (c .before .before .before .before .before .pre .1 .1 .3)) (λ c. le-refl _) (star-part-requires t)
     (λ c. c .match .keys1) (λ c. c .match .keys2)
     (λ c. c .before .before .before .before .before .before .star-part .kept .1 .1 .1 .1 .0)
     (λ c. c .before .before .before .before .before .before .star-part .kept .1 .1 .1 .1 .1 .1 .1 .0) (returns t)
@@ -180,7 +180,7 @@ recursion-part M t =
       reach t
           (annotation-place t (raised-place t (c .before) .before .before .before .before .before .before .before .before)),
     ))
-    (note-requires-2 t) (add-t35 t)
+    (note-requires-2 t) (add-t37 t)
     (λ c. c .before .before .note2 .kept .1 .0 ∙ long-raised t
     (raised-place t (c .before .before .before .before .before .before)))
     (λ c. held-raised t (raised-place t (c .before .before .before .before .before .before))) (returns-5 t)

@@ -23,17 +23,18 @@ use Rattle.inference.proofs.Heads.{Headed, not-star, type-headed, type-
 use Rattle.inference.proofs.star_part.Reads as star-part
 use Rattle.inference.proofs.+abstraction+application+cast_down+cast_up+infer+product+recursion+star_part.Lts-star_part as star-part-lts
 use Rattle.inference.proofs.+abstraction+application+cast_down+cast_up+infer+product+recursion+star_part.Proof.Measures.{star-part-at, star-part-claims}
+use Rattle.book.specs.declared.Reader.{Reader}
 
 -- A type whose first word is that of star.
-starred : (L p : ℕ) {Γ : Context} {e : Term} {term sub places : List ℕ} {depth : ℕ} {work : List ℕ} {top n m : ℕ} {r : Inferred}
+starred : (who : Reader) {book : List ℕ} (L p : ℕ) {Γ : Context} {e : Term} {term sub places : List ℕ} {depth : ℕ} {work : List ℕ} {top n m : ℕ} {r : Inferred}
     {after places′ : List ℕ}
-    → Subject Γ e term sub places depth
-    → Part (judge L Γ p e) e places depth work top n m after places′
+    → Subject book Γ e term sub places depth
+    → Part (judge who book L Γ p e) e places depth work top n m after places′
     → r ≡ inferred.Typed n m
     → a-star ≡ meaning (word-at after top)
-    → Infers (star-typed L Γ p e) e places depth work top r after places′
+    → Infers (star-typed who book L Γ p e) e places depth work top r after places′
 unfolding star-typed _>>=_ _>>_ require Headed
-starred L p S part q w =
+starred who L p S part q w =
     found
     (rw (part .found, x, equal star) refl)
     (record {
@@ -45,20 +46,20 @@ starred L p S part q w =
     })
   where
     x : part .type ≡ star
-    x = type-headed L p S part w
+    x = type-headed who L p S part w
 
 -- A type whose first word is not that of star.
-unstarred : (L : ℕ) (Γ : Context) (p : ℕ) {e : Term} {places : List ℕ} {depth : ℕ} {work : List ℕ} {top n m : ℕ}
+unstarred : (who : Reader) (book : List ℕ) (L : ℕ) (Γ : Context) (p : ℕ) {e : Term} {places : List ℕ} {depth : ℕ} {work : List ℕ} {top n m : ℕ}
     {after places′ : List ℕ}
-    → Part (judge L Γ p e) e places depth work top n m after places′
+    → Part (judge who book L Γ p e) e places depth work top n m after places′
     → meaning (word-at after top) ≢ a-star
-    → star-typed L Γ p e ≡ refused reason.not-star p
+    → star-typed who book L Γ p e ≡ refused reason.not-star p
 unfolding star-typed _>>=_ _>>_ require emit meaning
-unstarred L Γ p part n = rw (part .found, unequal λ x. n (type-meaning part x)) refl
+unstarred who book L Γ p part n = rw (part .found, unequal λ x. n (type-meaning part x)) refl
 
 infer-requires : (t : ℕ) → star-part-lts.Need-infer-requires (star-part-claims t) (star-part-at t) star-part.Post
 infer-requires t c κs =
-    let start = c .before .before .before .before .before .before .before in
+    let start = c .before .before .before .before .before .before .before .before in
     (omega (arith, start .pre .0), start .pre .1)
 
 returns : (t : ℕ) → star-part-lts.Need-returns (star-part-claims t) (star-part-at t) star-part.Post
@@ -73,7 +74,7 @@ returns-2 t c Γ e S =
     let part = typed (after-told .before .before .before .before .before .before .infer .ensures Γ e S)
     (after-told .enum-told .given .1) in
     turned
-    (unstarred _ Γ _ part λ x. not-star (classify .result) (c .before .match2 .keys2) (classify .ensures ∙ x))
+    (unstarred _ _ _ Γ _ part λ x. not-star (classify .result) (c .before .match2 .keys2) (classify .ensures ∙ x))
     (c .refused .ensures)
 
 returns-3 : (t : ℕ) → star-part-lts.Need-returns-3 (star-part-claims t) (star-part-at t) star-part.Post
@@ -81,7 +82,7 @@ returns-3 t c Γ e S =
     let after-told = c .before .before .before .before in
     let q = after-told .enum-told .given .1 in
     let part = typed (after-told .before .before .before .before .before .before .infer .ensures Γ e S) q in
-    starred _ _ S part q (ap meaning-of (sym (c .enum-told3 .given .1)) ∙ c .before .before .classify .ensures)
+    starred _ _ _ S part q (ap meaning-of (sym (c .enum-told3 .given .1)) ∙ c .before .before .classify .ensures)
 
 pub star-part-part : (M : Type 1) (t : ℕ) → star-part-lts.Closed (star-part-claims t) (star-part-at t) star-part.Post M
 star-part-part M t =

@@ -8,19 +8,19 @@ use lib.Seq.{length-take-le}
 use Rattle.calculus.specs.Term.{Term}
 use Rattle.calculus.specs.Words.{longest}
 use Rattle.term.specs.Kept.{kept}
-use Rattle.reduction.specs.Stepping.{HeldWithin}
 use Rattle.inference.proofs.Holding.{copied-cut}
 use Rattle.inference.proofs.KeptTypes.{cut-size}
 use Rattle.inference.proofs.moving.step_type.Statement.{statement}
 use Rattle.inference.proofs.moving.step_type.Tie as tie
+use Rattle.inference.specs.Moving.{HeldWithin}
 
 -- The start, from where the type is copied.
 abbrev start-place : tie.After-copy → tie.Start
-start-place c = c .before .before .before .before .before .before
+start-place c = c .before .before .before .before .before .before .before
 
 short : (s : tie.Start) → s .args .count ≤ longest
 short s =
-    let H = s .pre .1 .3 in
+    let H = s .pre .1 .4 in
     omega (arith, cut-size (H .term) (s .args .work .now) (s .args .top) (s .args .count) (s .pre .1 .2) (H .coded), H .short)
 
 slice-reshare-prefix-step-held : tie.Need-slice-reshare-prefix-step-held
@@ -49,12 +49,12 @@ step-held-requires c κs =
     let v = c .before .before .before .before in
     let s = start-place v in
     let p = s .pre .1 in
-    let H = p .3 in
-    (p .0, p .1, subst (λ x. HeldWithin x (s .args .closed)) (H .coded ∙ sym (cut v (H .term) (H .coded))) H)
+    let H = p .4 in
+    (p .0, p .1, p .3, subst (λ x. HeldWithin (s .args .book .now) x (s .args .closed)) (H .coded ∙ sym (cut v (H .term) (H .coded))) H)
 
 returns : tie.Need-returns
-returns c = λ b h has.
-    c .before .before .step-held .ensures b (cut (c .before .before .before .before .before .before .before) b h) has
+returns c = λ b h has none.
+    c .before .before .step-held .ensures b (cut (c .before .before .before .before .before .before .before) b h) has none
 
 pub step-type-spec : {M : Type 1} → statement M
 step-type-spec =

@@ -64,7 +64,7 @@ returns : tie.Need-returns
 unfolding step under applied
 returns c =
     let (a, e, u, p) = redex (c .before .before .before) in
-    no-room p Substitution (substitute 0 u e) refl _ (c .if1 .taken)
+    no-room p Substitution (substitute 0 u e) (λ v. refl) _ (c .if1 .taken)
 
 add-annotation : tie.Need-add-annotation
 add-annotation c = omega (arith, lies-node (annotation (c .before .before .before)))
@@ -113,7 +113,7 @@ returns-2 c =
     let w = v .before .before .before .before in
     let (a, e, u, p) = redex (w .before .before .before .before .before .before .before .before .before) in
     let x = substitute 0 u e in
-    reaches p Substitution x refl (v .surround .ensures _ _ x (p .put x) _ (p .around x) (p .coded) (written w))
+    reaches p Substitution x (λ v. refl) (v .surround .ensures _ _ x (p .put x) _ (p .around x) (p .coded) (written w))
 
 pub beta-spec : {M : Type 1} → statement M
 beta-spec =

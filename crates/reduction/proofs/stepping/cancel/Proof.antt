@@ -52,7 +52,7 @@ returns : tie.Need-returns
 unfolding step under cancelled
 returns c =
     let (a, e, p) = redex (c .before .before .before) in
-    no-room p Cancellation e refl _ (c .if1 .taken)
+    no-room p Cancellation e (λ v. refl) _ (c .if1 .taken)
 
 add-annotation : tie.Need-add-annotation
 add-annotation c = omega (arith, lies-node (annotation (c .before .before .before)))
@@ -90,7 +90,7 @@ returns-2 c =
     let v = c .before .before in
     let w = v .before .before .before .before in
     let (a, e, p) = redex (w .before .before .before .before .before .before .before .before) in
-    reaches p Cancellation e refl (v .surround .ensures _ _ e (p .put e) _ (p .around e) (p .coded) (written w))
+    reaches p Cancellation e (λ v. refl) (v .surround .ensures _ _ e (p .put e) _ (p .around e) (p .coded) (written w))
 
 pub cancel-spec : {M : Type 1} → statement M
 cancel-spec =

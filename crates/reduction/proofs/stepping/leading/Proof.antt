@@ -44,8 +44,8 @@ counted c ks b one each =
 
 returns : tie.Need-returns Inv-loop μ-loop
 returns c =
-    let others : List ℕ = 0 ∷ 3 ∷ 4 ∷ 5 ∷ 6 ∷ 7 ∷ 8 ∷ [] in
-    let each : Each (λ k. framing k ≡ false) others = (refl, (refl, (refl, (refl, (refl, (refl, (refl, tt))))))) in
+    let others : List ℕ = 0 ∷ 3 ∷ 4 ∷ 5 ∷ 6 ∷ 7 ∷ 8 ∷ 9 ∷ [] in
+    let each : Each (λ k. framing k ≡ false) others = (refl, (refl, (refl, (refl, (refl, (refl, (refl, (refl, tt)))))))) in
     omega (arith, counted (c .before) others false (c .match .keys2) each)
 
 loop-less : tie.Need-loop-less Inv-loop μ-loop

@@ -56,7 +56,7 @@ returns : tie.Need-returns
 unfolding step
 returns c =
     let (a, e, p) = redex (c .before .before .before) in
-    no-room p Unfolding (substitute 0 (mu a e) e) refl _ (c .if1 .taken)
+    no-room p Unfolding (substitute 0 (mu a e) e) (λ v. refl) _ (c .if1 .taken)
 
 add-annotation : tie.Need-add-annotation
 add-annotation c = omega (arith, lies-node (annotation (c .before .before .before)))
@@ -106,7 +106,7 @@ returns-2 c =
     let w = v .before .before .before .before in
     let (a, e, p) = redex (w .before .before .before .before .before .before .before .before) in
     let x = substitute 0 (mu a e) e in
-    reaches p Unfolding x refl (v .surround .ensures _ _ x (p .put x) _ (p .around x) (p .coded) (written w))
+    reaches p Unfolding x (λ v. refl) (v .surround .ensures _ _ x (p .put x) _ (p .around x) (p .coded) (written w))
 
 pub unfold-spec : {M : Type 1} → statement M
 unfold-spec =

@@ -5,9 +5,10 @@ use native.Mathlib.Omega.{arith}
 use borrow.Author.Needs.{needs}
 use lib.Dec.{leb·zero}
 use Rattle.calculus.specs.Meaning.{a-variable, meaning}
+use Rattle.calculus.specs.Scan.{means}
 use Rattle.term.specs.Subterms.{inside}
 use Rattle.term.specs.Word.{meaning-of}
-use Rattle.term.proofs.Visits.{variable-needs, nothing-needs, anywhere}
+use Rattle.term.proofs.Visits.{variable-needs, nothing-needs, unread, anywhere}
 use Rattle.term.proofs.Words.{variable-index}
 use Rattle.term.proofs.reading.needed.Statement.{statement}
 use Rattle.term.proofs.reading.needed.Tie as tie
@@ -23,7 +24,9 @@ returns : tie.Need-returns
 returns c b h = variable-needs (c .before .index .given .0 .0) _ b (variable c) (omega arith)
 
 returns-2 : tie.Need-returns-2
-returns-2 c b h = nothing-needs _ b (sym (c .before .before .classify .ensures) ∙ ap meaning-of (c .enum-told .given .1)) (omega arith)
+returns-2 c b h =
+    let m = c .before .classify in
+    nothing-needs _ _ b (ap means (sym (m .ensures)) ∙ unread (m .result) (c .match .keys2)) (omega arith)
 
 returns-3 : tie.Need-returns-3
 returns-3 c b h =
@@ -32,4 +35,4 @@ returns-3 c b h =
 
 pub needed-spec : {M : Type 1} → statement M
 needed-spec =
-    tie.close (tie.spec (λ c κs. search needs) (λ c. search needs) add-result (λ c. search needs) returns returns-2 returns-3)
+    tie.close (tie.spec (λ c κs. search needs) (λ c. search needs) add-result returns returns-2 returns-3)

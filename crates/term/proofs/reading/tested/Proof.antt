@@ -7,13 +7,13 @@ use mathlib.Core.Path.{_≡_, sym, ap, _∙_, subst}
 use native.Mathlib.Nat.{pos-of-ne-zero}
 use native.Mathlib.Omega.{arith}
 use borrow.Author.Needs.{needs}
-use lib.Dec.{T, eqb}
+use lib.Dec.{T, leb}
 use Rattle.calculus.specs.Meaning.{meaning}
 use Rattle.calculus.specs.Scan.{means}
 use Rattle.calculus.proofs.Comparisons.{le-leb, gt-leb}
 use Rattle.term.specs.Subterms.{inside}
 use Rattle.term.specs.Word.{meaning-of}
-use Rattle.term.proofs.Visits.{meaningless, too-deep, outside, passes, tag, at-one, meant}
+use Rattle.term.proofs.Visits.{meaningless, too-deep, outside, passes, tag, at-one, unread, meant}
 use Rattle.term.proofs.reading.tested.Statement.{statement}
 use Rattle.term.proofs.reading.tested.Tie as tie
 
@@ -28,9 +28,11 @@ returns c p =
     (asked .before .if1 .taken)
 
 returns-2 : tie.Need-returns-2
-returns-2 c p = meaningless _ _ _ p (sym (c .before .before .classify .ensures) ∙ ap meaning-of (c .enum-told .given .1))
+returns-2 c p =
+    let m = c .before .classify in
+    meaningless _ _ _ p (ap means (sym (m .ensures)) ∙ unread (m .result) (c .match .keys1))
 
--- A variant behind the test for 5 is another than the one that means nothing.
+-- A variant behind the test for 5 is one that is read.
 something : (c : tie.At-match-keys2) → T (means (meaning (c .before .before .before .args .word)))
 something c =
     let m = c .before .classify in
@@ -40,7 +42,7 @@ something c =
     (meant
     (m .result)
     (at-one
-    (λ t. T (not (eqb t 8)))
+    (λ t. T (not (leb 8 t)))
     (0 ∷ 1 ∷ 2 ∷ 3 ∷ 4 ∷ 5 ∷ 6 ∷ 7 ∷ [])
     (tt, (tt, (tt, (tt, (tt, (tt, (tt, (tt, tt))))))))
     (tag (m .result))
@@ -68,4 +70,4 @@ pub tested-spec : {M : Type 1} → statement M
 tested-spec =
     tie.close
     (tie.spec
-    (λ c κs. search needs) (λ c κs. search needs) returns (λ c κs. search needs) (λ c. search needs) returns-2 returns-3 returns-4)
+    (λ c κs. search needs) (λ c κs. search needs) returns (λ c κs. search needs) returns-2 returns-3 returns-4)

@@ -20,8 +20,8 @@ returns-2 c =
     second-by-tag
     (m .result)
     _
-    (0 ∷ 1 ∷ 2 ∷ 3 ∷ 7 ∷ 8 ∷ [])
-    (refl, (refl, (refl, (refl, (refl, (refl, tt))))))
+    (0 ∷ 1 ∷ 2 ∷ 3 ∷ 7 ∷ 8 ∷ 9 ∷ [])
+    (refl, (refl, (refl, (refl, (refl, (refl, (refl, tt)))))))
     (c .match .keys2)
     ∙ ap (λ x. second (binds x)) (m .ensures)
 

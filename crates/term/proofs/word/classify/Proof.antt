@@ -3,7 +3,7 @@ use Prim.Native.Nat.{ℕ, suc, _≤_, zero-le}
 use mathlib.Core.Path.{_≡_, sym, ap}
 use native.Mathlib.Omega.{arith}
 use Rattle.calculus.specs.Meaning.{meaning}
-use Rattle.term.proofs.Words.{gap, variable, beyond}
+use Rattle.term.proofs.Words.{gap, variable, named, beyond}
 use Rattle.term.proofs.word.classify.Statement.{statement}
 use Rattle.term.proofs.word.classify.Tie as tie
 
@@ -24,7 +24,10 @@ returns-9 : tie.Need-returns-9
 returns-9 c = sym (variable (c .before .before .before .args .word) (c .before .if1 .left) (c .if2 .taken))
 
 returns-10 : tie.Need-returns-10
-returns-10 c = sym (beyond (c .before .before .before .args .word) (c .if2 .left))
+returns-10 c = sym (named (c .before .before .before .before .args .word) (c .before .if2 .left) (c .if3 .taken))
+
+returns-11 : tie.Need-returns-11
+returns-11 c = sym (beyond (c .before .before .before .before .args .word) (c .if3 .left))
 
 pub classify-spec : {M : Type 1} → statement M
 unfolding meaning
@@ -33,4 +36,4 @@ classify-spec =
     (tie.spec
     (λ c. ap meaning (sym (c .match .keys1))) (λ c. ap meaning (sym (c .match .keys2))) (λ c. ap meaning (sym (c .match .keys3)))
     (λ c. ap meaning (sym (c .match .keys4))) (λ c. ap meaning (sym (c .match .keys5))) (λ c. ap meaning (sym (c .match .keys6)))
-    (λ c. ap meaning (sym (c .match .keys7))) returns-8 returns-9 returns-10)
+    (λ c. ap meaning (sym (c .match .keys7))) returns-8 returns-9 returns-10 returns-11)

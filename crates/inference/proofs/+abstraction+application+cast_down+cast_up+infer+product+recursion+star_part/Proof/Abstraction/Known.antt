@@ -26,7 +26,7 @@ abbrev pub Node : (t : ℕ)
     → abstraction-lts.Start (abstraction-claims t) (abstraction-at t) abstraction.Post
     → Context → Term → Term → Type 0
 Node t start Γ a e =
-    Subject Γ (lam a e) (start .args .term .now) (start .args .sub .now) (start .args .context .now) (start .args .depth)
+    Subject (start .args .book .now) Γ (lam a e) (start .args .term .now) (start .args .sub .now) (start .args .context .now) (start .args .depth)
 
 -- Where `star_part` and `infer` had answered, the start, and where the annotation is typed, from the places behind them.
 abbrev pub star-place : (t : ℕ)
@@ -37,7 +37,7 @@ star-place t c = c .before .before .before .before .before .before .before
 abbrev pub start-place : (t : ℕ)
     → abstraction-lts.After-known-told (abstraction-claims t) (abstraction-at t) abstraction.Post
     → abstraction-lts.Start (abstraction-claims t) (abstraction-at t) abstraction.Post
-start-place t c = star-place t c .before .before .before .before .before .before .before .before .before
+start-place t c = star-place t c .before .before .before .before .before .before .before .before .before .before
 
 abbrev pub annotation-place : (t : ℕ)
     → abstraction-lts.After-known-told2 (abstraction-claims t) (abstraction-at t) abstraction.Post
@@ -57,7 +57,7 @@ pub typed-annotation : (t : ℕ) (c : abstraction-lts.After-known-told (abstract
     let annotation = c .before .annotation .given .0 in
     let star-part = c .before .before .before .before .before .before .before .star-part in
     Node t start Γ a e
-    → Part (star-typed (start .args .limit) Γ (length (start .args .term .now) - length (behind 1 (start .args .sub .now))) a) a
+    → Part (star-typed (start .args .reader) (start .args .book .now) (start .args .limit) Γ (length (start .args .term .now) - length (behind 1 (start .args .sub .now))) a) a
     (start .args .context .now) (start .args .depth) (start .args .work .now) (start .args .top) (annotation .0)
     (annotation .1 .0)
     (star-part .last .1 .1 .1 .1 .0) (star-part .last .1 .1 .0)
@@ -72,7 +72,7 @@ pub reach : (t : ℕ) (c : abstraction-lts.After-known-told (abstraction-claims 
 reach t c =
     let start = start-place t c in
     let P = start .pre .1 .1 in
-    reaches (P .3) _ (typed-annotation t c (P .0) (P .1) (P .2) (P .3)) (of-lam {e = P .2})
+    reaches (P .3) _ _ (typed-annotation t c (P .0) (P .1) (P .2) (P .3)) (of-lam {e = P .2})
 
 -- The words that are noted are its own.
 pub noted : (t : ℕ) (c : abstraction-lts.After-known-told (abstraction-claims t) (abstraction-at t) abstraction.Post)
@@ -80,7 +80,7 @@ pub noted : (t : ℕ) (c : abstraction-lts.After-known-told (abstraction-claims 
     → let start = start-place t c in
     Node t start Γ a e
     → take (1 + c .before .annotation .given .0 .0 - 1) (drop 1 (start .args .sub .now)) ≡ words a
-noted t c Γ a e S = annotation-words S _ (typed-annotation t c Γ a e S) (of-lam {e = e})
+noted t c Γ a e S = annotation-words S _ _ (typed-annotation t c Γ a e S) (of-lam {e = e})
 
 -- Where the body's type is to lie: behind room for the product's node and the annotation, if these fit.
 pub skips : (t : ℕ) (c : abstraction-lts.Joined1 (abstraction-claims t) (abstraction-at t) abstraction.Post)
@@ -100,7 +100,7 @@ pub both : (t : ℕ) (c : abstraction-lts.After-known-told2 (abstraction-claims 
     let after-known-told = annotation-place t c in
     let start = start-place t after-known-told in
     Node t start Γ a e
-    → Both (start .args .limit) Γ (a ∷ Γ) (length (start .args .term .now) - length (start .args .sub .now)) a e
+    → Both (start .args .reader) (start .args .book .now) (start .args .limit) Γ (a ∷ Γ) (length (start .args .term .now) - length (start .args .sub .now)) a e
     (start .args .context .now) (start .args .depth) (start .args .work .now) (start .args .top)
     (start .args .top + joined1 .if1 .skip) (after-known-told .before .annotation .given .0 .0) (c .before .body .given .0 .0)
     (c .before .body .given .0 .1 .0) (after-infer .infer .last .1 .1 .1 .1 .0) (after-infer .infer .last .1 .1 .0)
@@ -108,8 +108,8 @@ both t c Γ a e S =
     let after-infer = c .before .before .before .before .before .before .before in
     let after-narrow = after-infer .before .before .before .before .before .before .before in
     let A = typed-annotation t (annotation-place t c) Γ a e S in
-    let E = below S _ A (after-narrow .narrow .result) (of-lam {e = e}) (after-narrow .narrow .ensures) in
-    both-below S _ A (after-narrow .narrow .result) of-lam (after-narrow .narrow .ensures) (omega arith)
+    let E = below S _ _ A (after-narrow .narrow .result) (of-lam {e = e}) (after-narrow .narrow .ensures) in
+    both-below S _ _ A (after-narrow .narrow .result) of-lam (after-narrow .narrow .ensures) (omega arith)
     (typed (after-infer .infer .ensures (a ∷ Γ) e E) (c .before .body .given .1))
 
 -- How long both parts and the body's type can be.

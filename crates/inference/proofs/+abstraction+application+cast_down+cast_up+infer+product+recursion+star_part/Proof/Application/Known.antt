@@ -35,7 +35,7 @@ abbrev pub Node : (t : ℕ)
     → application-lts.Start (application-claims t) (application-at t) application.Post
     → Context → Term → Term → Type 0
 Node t start Γ f u =
-    Subject Γ (app f u) (start .args .term .now) (start .args .sub .now) (start .args .context .now) (start .args .depth)
+    Subject (start .args .book .now) Γ (app f u) (start .args .term .now) (start .args .sub .now) (start .args .context .now) (start .args .depth)
 
 -- Where `infer` had answered for each part, the start, and where the function is typed, from the places behind them.
 abbrev pub called-place : (t : ℕ)
@@ -46,7 +46,7 @@ called-place t c = c .before .before .before .before .before .before
 abbrev pub start-place : (t : ℕ)
     → application-lts.After-function (application-claims t) (application-at t) application.Post
     → application-lts.Start (application-claims t) (application-at t) application.Post
-start-place t c = called-place t c .before .before .before .before .before .before .before .before .before
+start-place t c = called-place t c .before .before .before .before .before .before .before .before .before .before
 
 abbrev pub argument-place : (t : ℕ)
     → application-lts.After-known-told2 (application-claims t) (application-at t) application.Post
@@ -64,7 +64,7 @@ pub typed-function : (t : ℕ) (c : application-lts.After-function (application-
     → let function-infer = c .before .before .before .before .before .before .infer in
     let start = start-place t c in
     Node t start Γ f u
-    → Part (judge (start .args .limit) Γ (length (start .args .term .now) - length (behind 1 (start .args .sub .now))) f) f
+    → Part (judge (start .args .reader) (start .args .book .now) (start .args .limit) Γ (length (start .args .term .now) - length (behind 1 (start .args .sub .now))) f) f
     (start .args .context .now) (start .args .depth) (start .args .work .now) (start .args .top) (c .function .given .0 .0)
     (c .function .given .0 .1 .0) (function-infer .last .1 .1 .1 .1 .0) (function-infer .last .1 .1 .0)
 typed-function t c Γ f u S =
@@ -79,7 +79,7 @@ reach t c =
     let start = start-place t (c .before .before .before .before .before) in
     let P = start .pre .1 .1 in
     let function = typed-function t (c .before .before .before .before .before) (P .0) (P .1) (P .2) (P .3) in
-    let fits = type-fits (first (P .3) of-app) _ _ (function .found) in
+    let fits = type-fits (first (P .3) of-app) (start .args .reader) (start .args .limit) _ (function .found) in
     record {
       within = omega (arith, subject-parts (P .3) of-app, function .read);
       short = omega (arith, P .3 .within, P .3 .short);
@@ -93,7 +93,7 @@ pub calls : (t : ℕ) (c : application-lts.After-known-told2 (application-claims
     → let function = function-place t c .function .given .0 in
     let start = start-place t (function-place t c) in
     Node t start Γ f u
-    → Called (start .args .limit) Γ (length (start .args .term .now) - length (start .args .sub .now)) f u
+    → Called (start .args .reader) (start .args .book .now) (start .args .limit) Γ (length (start .args .term .now) - length (start .args .sub .now)) f u
     (start .args .context .now) (start .args .depth) (start .args .work .now) (start .args .top)
     (function .0) (c .before .argument .given .0 .0) (function .1 .0) (c .before .argument .given .0 .1 .0)
     (c .before .before .before .before .before .before .before .infer2 .last .1 .1 .1 .1 .0)
@@ -101,8 +101,8 @@ pub calls : (t : ℕ) (c : application-lts.After-known-told2 (application-claims
 calls t c Γ f u S =
     let told = argument-place t c .before .before .before .before .before in
     let function = typed-function t (told .before .before .before .before .before) Γ f u S in
-    called S _ function (ap meaning-of (sym (told .enum-told2 .given .1)) ∙ told .before .before .classify .ensures)
-    (typed (c .before .before .before .before .before .before .before .infer2 .ensures Γ u (argument-subject S _ function))
+    called S _ _ function (ap meaning-of (sym (told .enum-told2 .given .1)) ∙ told .before .before .classify .ensures)
+    (typed (c .before .before .before .before .before .before .before .infer2 .ensures Γ u (argument-subject S _ _ function))
     (c .before .argument .given .1))
 
 -- The slice and `held` are as long as they were.
@@ -143,8 +143,8 @@ applies t c Γ f u S =
     let function = typed-function t (function-place t after-argument) Γ f u S in
     let C = calls t after-argument Γ f u S in
     let has = C .has-words (start-place t (function-place t after-argument) .pre .1 .1 .4 .allowed) in
-    c .apply .ensures (C .domain) (C .codomain) u (C .type) (C .lies) (has .0) (argument-words S _ function (C .further))
-    (subject-worded (argument-subject S _ function)) (C .type-lies) (has .1)
+    c .apply .ensures (C .domain) (C .codomain) u (C .type) (C .lies) (has .0) (argument-words S _ _ function (C .further))
+    (subject-worded (argument-subject S _ _ function)) (C .type-lies) (has .1)
 
 -- If the argument's type is the domain, the type is the codomain with the argument put in, measured.
 pub measured : (t : ℕ) (c : application-lts.After-known-told2 (application-claims t) (application-at t) application.Post)
@@ -153,8 +153,8 @@ pub measured : (t : ℕ) (c : application-lts.After-known-told2 (application-cla
     (S : Node t start Γ f u)
     → calls t c Γ f u S .type ≡ calls t c Γ f u S .domain
     → let p = length (start .args .term .now) - length (start .args .sub .now) in
-    judge (start .args .limit) Γ p (app f u) ≡ measure (start .args .limit) p (substitute 0 u (calls t c Γ f u S .codomain))
-measured t c Γ f u S alike = let C = calls t c Γ f u S in right _ Γ _ f u (C .function) (C .argument) alike
+    judge (start .args .reader) (start .args .book .now) (start .args .limit) Γ p (app f u) ≡ measure (start .args .limit) p (substitute 0 u (calls t c Γ f u S .codomain))
+measured t c Γ f u S alike = let C = calls t c Γ f u S in right _ _ _ Γ _ f u (C .function) (C .argument) alike
 
 -- The slice is still as long once the codomain is written.
 pub long-applied : (t : ℕ) (c : application-lts.After-apply (application-claims t) (application-at t) application.Post)

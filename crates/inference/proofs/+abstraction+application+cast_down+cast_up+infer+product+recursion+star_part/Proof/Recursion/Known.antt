@@ -33,7 +33,7 @@ abbrev pub Node : (t : ℕ)
     → recursion-lts.Start (recursion-claims t) (recursion-at t) recursion.Post
     → Context → Term → Term → Type 0
 Node t start Γ a e =
-    Subject Γ (mu a e) (start .args .term .now) (start .args .sub .now) (start .args .context .now) (start .args .depth)
+    Subject (start .args .book .now) Γ (mu a e) (start .args .term .now) (start .args .sub .now) (start .args .context .now) (start .args .depth)
 
 -- Where `star_part` and `infer` had answered, the start, and where the annotation is typed, from the places behind them.
 abbrev pub star-place : (t : ℕ)
@@ -44,7 +44,7 @@ star-place t c = c .before .before .before .before .before .before .before
 abbrev pub start-place : (t : ℕ)
     → recursion-lts.After-known-told (recursion-claims t) (recursion-at t) recursion.Post
     → recursion-lts.Start (recursion-claims t) (recursion-at t) recursion.Post
-start-place t c = star-place t c .before .before .before .before .before .before .before .before .before
+start-place t c = star-place t c .before .before .before .before .before .before .before .before .before .before
 
 abbrev pub annotation-place : (t : ℕ)
     → recursion-lts.After-known-told2 (recursion-claims t) (recursion-at t) recursion.Post
@@ -68,7 +68,7 @@ pub typed-annotation : (t : ℕ) (c : recursion-lts.After-known-told (recursion-
     let annotation = c .before .annotation .given .0 in
     let star-part = c .before .before .before .before .before .before .before .star-part in
     Node t start Γ a e
-    → Part (star-typed (start .args .limit) Γ (length (start .args .term .now) - length (behind 1 (start .args .sub .now))) a) a
+    → Part (star-typed (start .args .reader) (start .args .book .now) (start .args .limit) Γ (length (start .args .term .now) - length (behind 1 (start .args .sub .now))) a) a
     (start .args .context .now) (start .args .depth) (start .args .work .now) (start .args .top) (annotation .0)
     (annotation .1 .0)
     (star-part .last .1 .1 .1 .1 .0) (star-part .last .1 .1 .0)
@@ -83,7 +83,7 @@ pub reach : (t : ℕ) (c : recursion-lts.After-known-told (recursion-claims t) (
 reach t c =
     let start = start-place t c in
     let P = start .pre .1 .1 in
-    reaches (P .3) _ (typed-annotation t c (P .0) (P .1) (P .2) (P .3)) (of-mu {e = P .2})
+    reaches (P .3) _ _ (typed-annotation t c (P .0) (P .1) (P .2) (P .3)) (of-mu {e = P .2})
 
 -- The words that are noted are its own.
 pub noted : (t : ℕ) (c : recursion-lts.After-known-told (recursion-claims t) (recursion-at t) recursion.Post) (Γ : Context)
@@ -91,7 +91,7 @@ pub noted : (t : ℕ) (c : recursion-lts.After-known-told (recursion-claims t) (
     → let start = start-place t c in
     Node t start Γ a e
     → take (1 + c .before .annotation .given .0 .0 - 1) (drop 1 (start .args .sub .now)) ≡ words a
-noted t c Γ a e S = annotation-words S _ (typed-annotation t c Γ a e S) (of-mu {e = e})
+noted t c Γ a e S = annotation-words S _ _ (typed-annotation t c Γ a e S) (of-mu {e = e})
 
 -- Both parts are typed.
 pub both : (t : ℕ) (c : recursion-lts.After-known-told2 (recursion-claims t) (recursion-at t) recursion.Post) (Γ : Context)
@@ -100,7 +100,7 @@ pub both : (t : ℕ) (c : recursion-lts.After-known-told2 (recursion-claims t) (
     let after-known-told = annotation-place t c in
     let start = start-place t after-known-told in
     Node t start Γ a e
-    → Both (start .args .limit) Γ (a ∷ Γ) (length (start .args .term .now) - length (start .args .sub .now)) a e
+    → Both (start .args .reader) (start .args .book .now) (start .args .limit) Γ (a ∷ Γ) (length (start .args .term .now) - length (start .args .sub .now)) a e
     (start .args .context .now) (start .args .depth) (start .args .work .now) (start .args .top) (start .args .top)
     (after-known-told .before .annotation .given .0 .0) (c .before .body .given .0 .0) (c .before .body .given .0 .1 .0)
     (after-infer .infer .last .1 .1 .1 .1 .0) (after-infer .infer .last .1 .1 .0)
@@ -109,8 +109,8 @@ both t c Γ a e S =
     let after-narrow = after-infer .before .before .before .before .before in
     let start = start-place t (annotation-place t c) in
     let A = typed-annotation t (annotation-place t c) Γ a e S in
-    let E = below S _ A (after-narrow .narrow .result) (of-mu {e = e}) (after-narrow .narrow .ensures) in
-    both-below S _ A (after-narrow .narrow .result) of-mu (after-narrow .narrow .ensures) (le-refl (start .args .top))
+    let E = below S _ _ A (after-narrow .narrow .result) (of-mu {e = e}) (after-narrow .narrow .ensures) in
+    both-below S _ _ A (after-narrow .narrow .result) of-mu (after-narrow .narrow .ensures) (le-refl (start .args .top))
     (typed (after-infer .infer .ensures (a ∷ Γ) e E) (c .before .body .given .1))
 
 -- The slice and `held` are as long as they were.
