@@ -1,8 +1,7 @@
 //! The grant of a run beside the steps that the run needs: there the order of its ends shows (document 02, 2.2).
 
 use crate::request::Request;
-use crate::side::RULES;
-use reference::read::Names;
+use crate::side::{NAMES, RULES};
 use reference::run::{run_with, End, Rules};
 use reference::step::PLAIN;
 
@@ -13,7 +12,7 @@ const MOST: u32 = 4000;
 pub fn needed(term: &[u16]) -> Option<u32> {
     let (mut work, mut state) = (vec![0; feguavy::RUN_WORK], vec![0; feguavy::LONGEST]);
     let rules = Rules { leap: true, ..RULES };
-    let ran = run_with(term, MOST, &mut work, &mut state, MOST, &PLAIN, Names::Meaningless, rules).ok()?;
+    let ran = run_with(term, MOST, &mut work, &mut state, MOST, &PLAIN, NAMES, rules).ok()?;
     matches!(ran.end, End::Value | End::Stuck).then_some(ran.steps)
 }
 

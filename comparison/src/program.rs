@@ -59,7 +59,7 @@ fn kind(answer: &str) -> Option<(&'static str, u32)> {
         "part" if answer == "part |" => Some(("no part", 0)),
         "part" => Some(("part", 0)),
         "ok" => Some(("ok", 0)),
-        "desk" => Some(("shown", 0)),
+        "desk" | "book" => Some(("shown", 0)),
         _ => None,
     }
 }

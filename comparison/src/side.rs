@@ -1,15 +1,19 @@
 //! The calls of both sides in one shape.
 
 use crate::request::Call;
-use feguavy::{Checked, Desk};
+use feguavy::raw::RanNumbers;
+use feguavy::Desk;
 use reference::check::Answer as Verdict;
 use reference::proto::Options;
 use reference::read::Names;
 use reference::run::{run_for, Rules, FIRST};
 use reference::step::PLAIN;
 
-/// The reference under the options of what has landed of document 02: the ends of 2.2. It takes each step of a run.
-pub const LANDED: Options = Options { new_ends: true, under_up: false, names: false, no_leap: true };
+/// The reference under the options of what has landed of document 02: the ends of 2.2, the names of 2.3. It takes each step of a run.
+pub const LANDED: Options = Options { new_ends: true, under_up: false, names: true, no_leap: true };
+
+/// How the words of a call that is lent no book are read: names against an empty one.
+pub const NAMES: Names = Names::Below(0);
 
 /// The same for a call, with the working slices of 2.12.
 pub const RULES: Rules = Rules { room: feguavy::RUN_WORK, new_ends: LANDED.new_ends, leap: !LANDED.no_leap, ..FIRST };
@@ -36,8 +40,32 @@ pub struct Ran {
 }
 
 impl Ran {
+    /// Those that an export answers.
+    pub fn of(r: &RanNumbers) -> Ran {
+        Ran {
+            end: r.end,
+            steps: r.steps,
+            substitutions: r.substitutions,
+            unfoldings: r.unfoldings,
+            cancellations: r.cancellations,
+            desk: r.desk,
+        }
+    }
+
+    /// Those of the reference, with the desk that it leaves.
+    pub fn of_reference(r: &reference::run::Ran, desk: Desk) -> Ran {
+        Ran {
+            end: r.end as u32,
+            steps: r.steps,
+            substitutions: r.counts.beta,
+            unfoldings: r.counts.mu,
+            cancellations: r.counts.cancel,
+            desk,
+        }
+    }
+
     /// Of a run that is refused at that desk.
-    fn none(desk: Desk) -> Ran {
+    pub fn none(desk: Desk) -> Ran {
         Ran { end: 0, steps: 0, substitutions: 0, unfoldings: 0, cancellations: 0, desk }
     }
 }
@@ -73,23 +101,18 @@ pub fn asked(call: Call) -> (usize, usize) {
 /// The proved code. Of a run every number that the export answers is taken, also where it is refused.
 pub fn proved(call: Call, term: &[u16], work: &mut [u16], result: &mut [u16]) -> Answer {
     match call {
-        Call::Check { limit } => match feguavy::check(term, limit, work, result) {
-            Checked::Typed(length) => Answer::Typed { length },
-            Checked::Refused(r) => Answer::Refused { reason: r.reason.number(), place: r.place, ran: None },
-        },
+        Call::Check { limit } => {
+            let r = feguavy::raw::check(term, limit, work, result);
+            match r.answer {
+                0 => Answer::Typed { length: r.length as usize },
+                reason => Answer::Refused { reason, place: r.place as usize, ran: None },
+            }
+        }
         Call::Run { budget, caller, desk, .. } => {
             let r = feguavy::raw::run(term, budget, work, result, caller, desk);
-            let ran = Ran {
-                end: r.end,
-                steps: r.steps,
-                substitutions: r.substitutions,
-                unfoldings: r.unfoldings,
-                cancellations: r.cancellations,
-                desk: r.desk,
-            };
             match r.answer {
-                0 => Answer::Ended(ran),
-                reason => Answer::Refused { reason, place: r.place as usize, ran: Some(ran) },
+                0 => Answer::Ended(Ran::of(&r)),
+                reason => Answer::Refused { reason, place: r.place as usize, ran: Some(Ran::of(&r)) },
             }
         }
         Call::Part { number } => {
@@ -106,20 +129,15 @@ pub fn reference(call: Call, term: &[u16], work: &mut [u16], result: &mut [u16])
         Answer::Refused { reason, place, ran: desk.map(Ran::none) }
     };
     match call {
-        Call::Check { limit } => match reference::check::check_room(term, limit, work, result, PLAIN, Names::Meaningless, feguavy::check_work(1)) {
-            Verdict::Typed(length) => Answer::Typed { length },
-            Verdict::Refused(r) => refused(r, None),
-        },
+        Call::Check { limit } => {
+            match reference::check::check_room(term, limit, work, result, PLAIN, NAMES, feguavy::check_work(1)) {
+                Verdict::Typed(length) => Answer::Typed { length },
+                Verdict::Refused(r) => refused(r, None),
+            }
+        }
         Call::Run { budget, caller, desk, .. } => {
-            match run_for(term, budget, caller, work, result, desk.allowances, &PLAIN, Names::Meaningless, RULES) {
-                Ok((r, allowances)) => Answer::Ended(Ran {
-                    end: r.end as u32,
-                    steps: r.steps,
-                    substitutions: r.counts.beta,
-                    unfoldings: r.counts.mu,
-                    cancellations: r.counts.cancel,
-                    desk: Desk { allowances },
-                }),
+            match run_for(term, budget, caller, work, result, desk.allowances, &PLAIN, NAMES, RULES) {
+                Ok((r, allowances)) => Answer::Ended(Ran::of_reference(&r, Desk { allowances })),
                 Err(r) => refused(r, Some(desk)),
             }
         }

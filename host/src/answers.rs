@@ -9,7 +9,7 @@ use std::fmt;
 /// use feguavy::Reason;
 /// assert_eq!(Reason::try_from(12), Ok(Reason::WrongArgument));
 /// assert_eq!(Reason::WrongArgument.number(), 12);
-/// assert!(Reason::try_from(17).is_err());
+/// assert!(Reason::try_from(20).is_err());
 /// ```
 #[derive(Clone, Copy, Debug, PartialEq, Eq, Hash)]
 #[repr(u8)]
@@ -18,7 +18,7 @@ pub enum Reason {
     LimitNotAllowed = 1,
     /// 2: the working slice is too short.
     WorkShort,
-    /// 3: the output or state slice is too short.
+    /// 3: the output, state or book slice is too short.
     OutputShort,
     /// 4: the term has 0 or over 1,024 words.
     LengthNotAllowed,
@@ -46,13 +46,19 @@ pub enum Reason {
     WrongRecursion,
     /// 16: a measured type longer than the limit.
     OverLimit,
+    /// 17: a name that is not in the book (document 02, 2.3).
+    NameNotThere,
+    /// 18: the book has 32 definitions, and none may be added (document 02, 2.3).
+    BookFull,
+    /// 19: the owner of a check or an adding is above 7 (document 02, 2.3).
+    OwnerNotAllowed,
     /// 21: the caller of a run is above 7 (document 02, 2.9).
     CallerNotAllowed = 21,
 }
 
 impl Reason {
     /// Every reason, in the order of the numbers.
-    pub const ALL: [Reason; 17] = [
+    pub const ALL: [Reason; 20] = [
         Reason::LimitNotAllowed,
         Reason::WorkShort,
         Reason::OutputShort,
@@ -69,6 +75,9 @@ impl Reason {
         Reason::WrongCast,
         Reason::WrongRecursion,
         Reason::OverLimit,
+        Reason::NameNotThere,
+        Reason::BookFull,
+        Reason::OwnerNotAllowed,
         Reason::CallerNotAllowed,
     ];
 
@@ -77,16 +86,16 @@ impl Reason {
         self as u32
     }
 
-    /// Whether the refusal is about one place of the list: 1 to 4 and 21 are not, and their place is 0.
+    /// Whether the refusal is about one place of the list: 1 to 4, 18, 19 and 21 are not, and their place is 0.
     pub fn has_place(self) -> bool {
-        !matches!(self.number(), 1..=4 | 21)
+        !matches!(self.number(), 1..=4 | 18 | 19 | 21)
     }
 
     fn text(self) -> &'static str {
         match self {
             Reason::LimitNotAllowed => "a limit of 0 or above 1,024",
             Reason::WorkShort => "a working slice that is too short",
-            Reason::OutputShort => "an output or state slice that is too short",
+            Reason::OutputShort => "an output, state or book slice that is too short",
             Reason::LengthNotAllowed => "a term of 0 or over 1,024 words",
             Reason::NoMeaning => "a word without meaning",
             Reason::ListEnds => "a list that ends inside the term",
@@ -100,12 +109,15 @@ impl Reason {
             Reason::WrongCast => "an up cast whose stepped annotation is not its body's type",
             Reason::WrongRecursion => "a recursion whose body has another type than its annotation",
             Reason::OverLimit => "a type longer than the limit",
+            Reason::NameNotThere => "a name that is not in the book",
+            Reason::BookFull => "a book of 32 definitions",
+            Reason::OwnerNotAllowed => "an owner above 7",
             Reason::CallerNotAllowed => "a caller above 7",
         }
     }
 }
 
-/// A number that is no reason's, or no end's.
+/// A number that is no reason's, no end's, or no mark's.
 #[derive(Clone, Copy, Debug, PartialEq, Eq, Hash)]
 pub struct UnknownNumber(pub u32);
 
@@ -251,7 +263,7 @@ pub struct Ended {
     pub steps: u32,
     /// How many of the steps were by S_BETA.
     pub substitutions: u32,
-    /// How many of the steps were by S_MU.
+    /// How many of the steps were by S_MU, or from a name to its body.
     pub unfoldings: u32,
     /// How many of the steps were by S_CASTDOWNUP.
     pub cancellations: u32,

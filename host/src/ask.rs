@@ -1,28 +1,30 @@
 //! Questions to the proved check about the parts of a term.
 
+use crate::over::Over;
 use crate::tree::{Bound, Tree};
 use crate::word::{ABSTRACTION, DOWN, RECURSION, STAR, VARIABLE};
-use crate::{check, check_work, Buffers, Checked, Reason, Refusal, LARGEST_LIMIT};
+use crate::{check_work, Buffers, Checked, Owner, Reason, Refusal, LARGEST_LIMIT};
 
 /// The annotations around a part, the outermost first: a context of document 01.
 pub(crate) type Context<'a> = [&'a [u16]];
 
 #[derive(Debug)]
-pub(crate) struct Asker {
+pub(crate) struct Asker<'a> {
+    over: Over<'a>,
     buffers: Buffers,
 }
 
-impl Asker {
+impl<'a> Asker<'a> {
     /// Asks at the largest limit, since a question is longer than what is asked about.
-    pub fn new() -> Asker {
-        Asker { buffers: Buffers::for_limit(LARGEST_LIMIT) }
+    pub fn new(over: Over<'a>) -> Asker<'a> {
+        Asker { over, buffers: Buffers::for_limit(LARGEST_LIMIT) }
     }
 
     /// The type of a term in a context. The term under abstractions over the context has a type that begins with products over the
     /// same annotations; what is left behind them is the type asked for. The term's variables are those of the context.
     pub fn type_in(&mut self, context: &Context, term: &[u16]) -> Result<Vec<u16>, Refusal> {
         let question = under(context, term);
-        self.buffers.type_of(&question).map(|found| found[question.len() - term.len()..].to_vec())
+        self.buffers.type_over(self.over, &question).map(|found| found[question.len() - term.len()..].to_vec())
     }
 
     /// How long the type of a term in a context is, of one that is over the limit `from`.
@@ -30,13 +32,13 @@ impl Asker {
         let question = under(context, term);
         let place = question.len() - term.len();
         let over = |answer: Result<&[u16], Refusal>| answer == Err(Refusal { reason: Reason::OverLimit, place });
-        match self.buffers.type_of(&question) {
+        match self.buffers.type_over(self.over, &question) {
             Ok(found) => return Measured::Words(found[place..].to_vec()),
             Err(refusal) if over(Err(refusal)) => return Measured::Over,
             Err(_) => {}
         }
         // the term's own type fits, that of an abstraction around it does not: its length is the least limit at which it fits
-        let over_at = |limit| over(Buffers::for_limit(limit).type_of(&question));
+        let over_at = |limit| over(Buffers::for_limit(limit).type_over(self.over, &question));
         if over_at(from) {
             Measured::Length(least(from, LARGEST_LIMIT, over_at))
         } else {
@@ -124,9 +126,27 @@ fn least(mut low: u32, mut high: u32, mut over: impl FnMut(u32) -> bool) -> u32 
 /// assert_eq!(least_limit(&[7]), Some(1));
 /// ```
 pub fn least_limit(term: &[u16]) -> Option<u32> {
+    least_limit_over(Over::NoBook, term)
+}
+
+/// The least limit at which a check over a book, for an owner, does not answer 16: see [`least_limit`]. Over words that are too few for a
+/// book it is 1, since those are refused by 3 at every limit.
+///
+/// ```
+/// use feguavy::{least_limit_in, Book, Buffers, Mark, Owner};
+/// let mut book = Book::new();
+/// book.add(Owner::FIRST, Mark::Open, &[4, 0, 16], &mut Buffers::for_limit(64)).unwrap();
+/// // the stored type of three words is measured at the name
+/// assert_eq!(least_limit_in(book.words(), Owner::FIRST, &[2, 2048, 0]), Some(3));
+/// ```
+pub fn least_limit_in(book: &[u16], owner: Owner, term: &[u16]) -> Option<u32> {
+    least_limit_over(Over::Book(book, owner), term)
+}
+
+pub(crate) fn least_limit_over(on: Over, term: &[u16]) -> Option<u32> {
     let (mut work, mut output) = (vec![0; check_work(LARGEST_LIMIT)], vec![0; LARGEST_LIMIT as usize]);
     let mut over = |limit| {
-        let answer = check(term, limit, &mut work, &mut output);
+        let answer = on.check(term, limit, &mut work, &mut output);
         matches!(answer, Checked::Refused(Refusal { reason: Reason::OverLimit, .. }))
     };
     // a limit of 0 is refused by 1 for any term, and stands for one that is too small

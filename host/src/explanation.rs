@@ -1,6 +1,7 @@
 //! What is said of a refusal, and how it is laid out.
 
-use crate::Refusal;
+use crate::show::name;
+use crate::{Mark, Owner, Refusal};
 use std::fmt;
 
 /// A term or a type that an explanation names.
@@ -29,6 +30,21 @@ pub struct Variable {
     pub text: String,
 }
 
+/// A definition of the book whose name a fact mentions.
+#[derive(Clone, Debug, PartialEq, Eq, Hash)]
+pub struct Mentioned {
+    /// Its number.
+    pub number: usize,
+    /// Its owner.
+    pub owner: Owner,
+    /// Whether checks for other owners see the body.
+    pub mark: Mark,
+    /// Its stored type.
+    pub words: Vec<u16>,
+    /// The same as text.
+    pub text: String,
+}
+
 /// What there is to say about a refusal.
 #[derive(Clone, Debug, PartialEq, Eq, Hash)]
 pub struct Explanation {
@@ -43,6 +59,9 @@ pub struct Explanation {
     pub facts: Vec<Fact>,
     /// The variables of the facts, the outermost first.
     pub variables: Vec<Variable>,
+    /// The definitions that the facts, the variables' annotations and these definitions' own types name, in the order of their numbers;
+    /// none without a book.
+    pub definitions: Vec<Mentioned>,
     /// What would do instead, where one cast more is enough.
     pub hint: Option<String>,
     /// Of refusal 16: the least limit at which the answer is another; see [`crate::least_limit`].
@@ -60,6 +79,7 @@ impl Explanation {
             message: String::new(),
             facts: Vec::new(),
             variables: Vec::new(),
+            definitions: Vec::new(),
             hint: None,
             least_limit: None,
             complete: true,
@@ -89,9 +109,13 @@ impl fmt::Display for Explanation {
             let space = if i == 0 { "\n\n" } else { "\n" };
             write!(f, "{space}{:MARGIN$}{label:LABEL$}{}", "", indented(&fact.text, MARGIN + LABEL))?;
         }
-        for (i, variable) in self.variables.iter().enumerate() {
+        let variables = self.variables.iter().map(|variable| format!("{} : {}", variable.name, variable.text));
+        let definitions = self.definitions.iter().map(|definition| {
+            let Mentioned { number, owner, mark, text, .. } = definition;
+            format!("{} : {text} (of {owner}, {mark})", name(*number))
+        });
+        for (i, text) in variables.chain(definitions).enumerate() {
             let label = if i == 0 { "where" } else { "" };
-            let text = format!("{} : {}", variable.name, variable.text);
             write!(f, "\n{:MARGIN$}{label:LABEL$}{}", "", indented(&text, MARGIN + LABEL))?;
         }
         if let Some(hint) = &self.hint {

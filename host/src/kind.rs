@@ -10,7 +10,7 @@
 pub enum Kind {
     /// An argument put in for the variable of an abstraction.
     Substitution,
-    /// A recursion put in for its own variable.
+    /// A recursion put in for its own variable, or a name of the book that becomes its body.
     Unfolding,
     /// A down cast on an up cast: both go.
     Cancellation,
@@ -20,7 +20,8 @@ impl Kind {
     /// Every kind, in the order of the counts of [`Ended`](crate::Ended).
     pub const ALL: [Kind; 3] = [Kind::Substitution, Kind::Unfolding, Kind::Cancellation];
 
-    /// Document 002's name of the rule.
+    /// Document 002's name of the rule: of an unfolding that of a recursion, S_MU. A step from a name to its body, S_NAME in
+    /// docs/CALCULUS.md, is none of that document's.
     pub fn rule(self) -> &'static str {
         match self {
             Kind::Substitution => "S_BETA",

@@ -19,8 +19,11 @@
 //! A run takes its steps from a [`Desk`], on which each of eight callers has an allowance of its own, and hands the desk back for the
 //! next run: nobody drains another's.
 //!
-//! What is proved is what the archive answers: [`check`], [`run`] and [`part`]. What is shown and explained is put together here,
-//! and tested; every type that an explanation names is one that [`check`] answered. The command `feguavy` of this package does the
+//! Modules import each other by a [`Book`] of definitions, each with its type, an [`Owner`] and a [`Mark`], open or closed. It grows by
+//! adding alone; one that comes from a file is a [`ForeignBook`], of whose types nothing is claimed.
+//!
+//! What is proved is what the archive answers: [`check`], [`run`] and [`part`], and over a book [`check_in`], [`add`] and [`run_in`]. What
+//! is shown and explained is put together here, and tested; every type that an explanation names is one that the check answered. The command `feguavy` of this package does the
 //! same from a shell.
 
 #![warn(missing_docs)]
@@ -28,14 +31,20 @@
 
 mod answers;
 mod ask;
+mod book;
 mod bytes;
 mod calls;
+mod definition;
 mod desk;
 mod explain;
 mod explanation;
+mod fault;
+mod foreign;
 mod kind;
 mod layout;
 mod names;
+mod over;
+mod owner;
 #[doc(hidden)]
 pub mod raw;
 mod reading;
@@ -47,11 +56,16 @@ mod typing;
 mod word;
 
 pub use answers::{Checked, End, Ended, Ran, Reason, Refusal, UnknownNumber};
-pub use ask::least_limit;
+pub use ask::{least_limit, least_limit_in};
+pub use book::Book;
 pub use bytes::{bytes_from_words, words_from_bytes};
-pub use calls::{check, check_work, length, part, run, Buffers, LARGEST_LIMIT, LONGEST, RUN_WORK};
+pub use calls::{add, check, check_in, check_work, length, part, run, run_in, Buffers, LARGEST_LIMIT, LONGEST, RUN_WORK};
+pub use definition::{Definition, BOOK_WORDS, DEFINITIONS};
 pub use desk::{Caller, Desk, CALLERS};
-pub use explain::explain;
-pub use explanation::{Explanation, Fact, Variable};
+pub use explain::{explain, explain_in};
+pub use explanation::{Explanation, Fact, Mentioned, Variable};
+pub use fault::{Fault, Flaw, NotGrown};
+pub use foreign::ForeignBook;
 pub use kind::Kind;
+pub use owner::{Mark, Owner, OWNERS};
 pub use show::{show, Style};

@@ -1,4 +1,4 @@
-//! Names for the variables of a term.
+//! Names for the variables of a term. (The names of a book's definitions are words, and need none.)
 
 use crate::tree::{Bound, Tree};
 use std::borrow::Cow;

@@ -1,11 +1,13 @@
-//! Refusals 1 to 9 and 21 in words: what is wrong with a call, or with a list that is read as no closed term.
+//! Refusals 1 to 9 and 17 to 21 in words: what is wrong with a call, or with a list that is read as no closed term.
 
-use crate::show::{Sign, Style};
+use crate::definition::count;
+use crate::over::Over;
+use crate::show::{name, Sign, Style};
 use crate::word::{self, VARIABLE};
-use crate::{Reason, Refusal};
+use crate::{Reason, Refusal, BOOK_WORDS};
 
 /// What is wrong with a call, or with a list that is read as no closed term.
-pub(crate) fn message(term: &[u16], refusal: Refusal, limit: u32) -> String {
+pub(crate) fn message(over: Over, term: &[u16], refusal: Refusal, limit: u32) -> String {
     let place = refusal.place;
     let path = path(term, place);
     let awaited = match path.last() {
@@ -17,20 +19,45 @@ pub(crate) fn message(term: &[u16], refusal: Refusal, limit: u32) -> String {
         Reason::WorkShort => {
             "A check needs a working slice of 1,024 words for each word of the limit, a run one of 8,192 words.".to_string()
         }
-        Reason::OutputShort => {
-            "A check needs an output slice of as many words as the limit, a run a state slice of 1,024 words.".to_string()
-        }
+        Reason::OutputShort => match over {
+            Over::Book(book, _) if book.len() < BOOK_WORDS => {
+                format!("The book has {} words, and a book has at least 66,000.", book.len())
+            }
+            _ => "A check needs an output slice of as many words as the limit, a run a state slice of 1,024 words.".to_string(),
+        },
         Reason::LengthNotAllowed => format!("The list has {} words, and a term has 1 to 1,024.", term.len()),
+        Reason::BookFull => "A book holds 32 definitions, and nothing is ever taken out.".to_string(),
+        Reason::OwnerNotAllowed => "A check over a book, and an adding, names one of eight owners, 0 to 7.".to_string(),
         Reason::CallerNotAllowed => "A run names one of the eight callers of the desk, 0 to 7.".to_string(),
         Reason::NoMeaning => {
             let word = term[place];
-            format!("The word {word} means nothing where {awaited}: nodes are 0 to 6, and variables 16 to 2,047.")
+            format!(
+                "The word {word} means nothing where {awaited}: nodes are 0 to 6, variables 16 to 2,047, and names 2,048 to 2,079."
+            )
         }
         Reason::ListEnds => format!("The list ends after {} words where {awaited}.", term.len()),
         Reason::WordsAfter => {
             let over = term.len() - place;
             let words = if over == 1 { "one more word follows".to_string() } else { format!("{over} more words follow") };
             format!("The term ends before place {place}, and {words}.")
+        }
+        Reason::NameNotThere => {
+            let number = word::definition(term[place]).expect("a name");
+            let name = name(number);
+            match over {
+                Over::NoBook => format!("{name} names definition {number} of a book, and no book is lent."),
+                Over::Book(book, _) => match (count(book), book[0]) {
+                    (0, 0) => format!("{name} names definition {number}, and the book is empty."),
+                    (0, _) => {
+                        format!("{name} names definition {number}, and the book breaks the layout of books: it counts as empty.")
+                    }
+                    (1, _) => format!("{name} names definition {number}, and the book has one definition, 0."),
+                    (count, _) => {
+                        let last = count - 1;
+                        format!("{name} names definition {number}, and the book has {count} definitions, 0 to {last}.")
+                    }
+                },
+            }
         }
         Reason::Level65 => {
             format!("The {} stands at level {}, and the lowest level of a term is 64.", word::name(term[place]), path.len() + 1)

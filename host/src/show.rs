@@ -3,14 +3,15 @@
 use crate::layout::{lay_out, Piece};
 use crate::names::{spell, Names, Scope};
 use crate::tree::{Bound, Tree};
-use crate::word::{binds, ABSTRACTION, APPLICATION, DOWN, PRODUCT, RECURSION, STAR, UP};
+use crate::word::{binds, definition, ABSTRACTION, APPLICATION, DOWN, PRODUCT, RECURSION, STAR, UP};
 use crate::Refusal;
 use std::borrow::Cow;
 
 /// A list of words that is one term, as text for people, in the style of [`Style::default`].
 ///
 /// A binder's variable gets a name that no other variable has there; one that is not used is `_`, and a product over it an arrow.
-/// A variable that is free in the whole list is `#` and its index. Where the list is no term, the error says where and why, by
+/// A variable that is free in the whole list is `#` and its index, and the name of a definition of a book `@` and its number, whichever
+/// book that is: no variable is written so. Where the list is no term, the error says where and why, by
 /// refusals 4 (the empty list), 5, 6 and 7; neither length nor levels nor scope are asked for here.
 ///
 /// ```
@@ -19,6 +20,7 @@ use std::borrow::Cow;
 /// assert_eq!(show(&[5, 0, 5, 16, 17]).unwrap(), "Π x : ⋆. x → x");
 /// assert_eq!(show(&[1, 3, 2, 4, 0, 16, 0, 0]).unwrap(), "cast↓ cast↑ [(λ x : ⋆. x) ⋆] ⋆");
 /// assert_eq!(show(&[2, 19, 16]).unwrap(), "#3 #0");
+/// assert_eq!(show(&[2, 2049, 2048]).unwrap(), "@1 @0");
 /// assert_eq!(show(&[2, 0]).unwrap_err().to_string(), "a list that ends inside the term, at place 2 (refusal 6)");
 /// ```
 pub fn show(words: &[u16]) -> Result<String, Refusal> {
@@ -130,6 +132,11 @@ enum Item {
     Node(usize, Position),
 }
 
+/// The text of a definition's name.
+pub(crate) fn name(number: usize) -> Cow<'static, str> {
+    format!("@{number}").into()
+}
+
 fn text(text: impl Into<Cow<'static, str>>) -> Item {
     Item::Piece(Piece::Text(text.into()))
 }
@@ -189,7 +196,7 @@ impl Picture<'_> {
                 items.extend([first(Position::Domain), sign(Sign::Arrow), gap(0), second(Position::Codomain)])
             }
             ABSTRACTION | PRODUCT | RECURSION => items.extend(self.binder(place, word)),
-            _ => items.push(text(self.variable(place))),
+            _ => items.push(text(definition(word).map_or_else(|| self.variable(place), name))),
         }
         items.extend(group.map(|_| Item::Piece(Piece::Close)));
         items.extend(in_parentheses.then(|| text(")")));
@@ -231,7 +238,7 @@ impl Picture<'_> {
         match self.tree.bound(place) {
             Some(Bound::By(binder)) => spell(self.names.name(binder).expect("a used variable has a name")),
             Some(Bound::Free(index)) => self.names.of_free(index),
-            None => unreachable!("a word with meaning that is no node with parts is a variable"),
+            None => unreachable!("a word with meaning that is no node with parts is a variable or a name"),
         }
     }
 

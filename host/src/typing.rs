@@ -1,11 +1,11 @@
 //! Refusals 10 to 16 in words, with the terms and types on which they turn. Every type is one that the proved check answered.
 
-use crate::ask::{least_limit, Asker, Measured};
-use crate::explain::answer;
-use crate::explanation::{Explanation, Fact, Variable, LABEL};
+use crate::ask::{least_limit_over, Asker, Measured};
+use crate::explanation::{Explanation, Fact, Mentioned, Variable, LABEL};
 use crate::names::{spell, Names};
+use crate::over::Over;
 use crate::reading;
-use crate::show::{Picture, Sign, Style};
+use crate::show::{name, Picture, Sign, Style};
 use crate::tree::{Bound, Tree};
 use crate::word::{self, DOWN, PRODUCT, STAR, UP, VARIABLE};
 use crate::{Reason, Refusal};
@@ -16,19 +16,23 @@ pub(crate) const LONG: usize = 120;
 
 /// An explanation in the making, of a refusal by the rules of typing.
 pub(crate) struct Asked<'a> {
+    over: Over<'a>,
     picture: Picture<'a>,
     place: usize,
-    asker: Asker,
+    asker: Asker<'a>,
     explanation: Explanation,
     /// The binders of the variables that the facts mention.
     mentioned: BTreeSet<usize>,
+    /// The definitions that they name.
+    named: BTreeSet<usize>,
 }
 
 impl<'a> Asked<'a> {
-    pub fn about(picture: Picture<'a>, place: usize, explanation: Explanation) -> Asked<'a> {
+    pub fn about(over: Over<'a>, picture: Picture<'a>, place: usize, explanation: Explanation) -> Asked<'a> {
         let style = Style { width: picture.style.width.saturating_sub(LABEL), ..picture.style };
         let picture = Picture { style, ..picture };
-        Asked { picture, place, asker: Asker::new(), explanation, mentioned: BTreeSet::new() }
+        let asker = Asker::new(over);
+        Asked { over, picture, place, asker, explanation, mentioned: BTreeSet::new(), named: BTreeSet::new() }
     }
 
     pub fn explained(mut self, reason: Reason, limit: u32) -> Explanation {
@@ -71,7 +75,7 @@ impl<'a> Asked<'a> {
             }
             Reason::NoStep if tree.word(place) == UP => {
                 let (annotation, body) = (tree.first(place), tree.second(place));
-                let why = why_no_step(tree.slice(annotation));
+                let why = self.why_no_step(tree.slice(annotation));
                 self.say(format!("The annotation must take a step, and does not: it is {why}."));
                 self.part("annotation", annotation);
                 self.part("body", body);
@@ -84,7 +88,7 @@ impl<'a> Asked<'a> {
                 self.part("body", body);
                 match self.type_of("body", body) {
                     Some(found) => {
-                        self.say(format!("The body's type must take a step, and does not: it is {}.", why_no_step(&found)));
+                        self.say(format!("The body's type must take a step, and does not: it is {}.", self.why_no_step(&found)));
                         self.state("found", body, found, None);
                     }
                     None => self.say("The body's type must take a step, and does not."),
@@ -113,13 +117,14 @@ impl<'a> Asked<'a> {
             _ => self.over_limit(limit),
         }
         self.name_variables();
+        self.name_definitions();
         self.explanation
     }
 
     fn over_limit(&mut self, limit: u32) {
         let (tree, place) = (self.picture.tree, self.place);
         let node = word::name(tree.word(place));
-        self.explanation.least_limit = least_limit(tree.words);
+        self.explanation.least_limit = least_limit_over(self.over, tree.words);
         let around = context(tree, place);
         let mut what = format!("The type of the {node}");
         let measured = if tree.word(place) == UP {
@@ -152,7 +157,7 @@ impl<'a> Asked<'a> {
         }
         match self.explanation.least_limit {
             Some(least) => {
-                let answer = answer(tree.words, least);
+                let answer = self.over.answer(tree.words, least);
                 self.say(format!("From the limit {least} on the answer is another: {answer}."));
             }
             None => self.say("At no limit is the answer another."),
@@ -229,10 +234,11 @@ impl<'a> Asked<'a> {
         let Picture { style, tree, names, .. } = self.picture;
         let own = Tree::of(words).expect("a part or a type is one term");
         let around: Vec<usize> = tree.binders(place).collect();
-        for at in 0..words.len() {
+        for (at, &word) in words.iter().enumerate() {
             if let Some(Bound::Free(index)) = own.bound(at) {
                 self.mentioned.extend(around.get(index));
             }
+            self.named.extend(word::definition(word));
         }
         let own_names = Names::of(&own, names.scope(tree, place));
         let near = (words.len() > LONG).then_some(mark.unwrap_or(0));
@@ -254,6 +260,39 @@ impl<'a> Asked<'a> {
         variables.reverse();
         self.explanation.variables = variables;
     }
+
+    /// The definitions that facts and annotations name, and those that their types do.
+    fn name_definitions(&mut self) {
+        let mut definitions = Vec::new();
+        // a type names only definitions before its own
+        while let Some(number) = self.named.pop_last() {
+            let definition = self.over.definition(number).expect("a name that was read is in the book");
+            let words = self.asker.type_in(&[], &[definition.name()]).expect("a name has its stored type");
+            let text = self.text(0, &words, None);
+            definitions.push(Mentioned { number, owner: definition.owner, mark: definition.mark, words, text });
+        }
+        definitions.reverse();
+        self.explanation.definitions = definitions;
+    }
+
+    /// Of a type that does not step: by document 01, star, abstractions, products and up casts are values. Of what is stuck, the part in
+    /// which a step would be taken is a name only where the owner does not see its body.
+    fn why_no_step(&self, of: &[u16]) -> String {
+        if let word::STAR | word::ABSTRACTION | word::PRODUCT | word::UP = of[0] {
+            return "a value".to_string();
+        }
+        let head = of.iter().position(|&word| word != word::APPLICATION && word != DOWN).expect("a term has a leaf");
+        let unseen = word::definition(of[head]).and_then(|number| self.over.definition(number));
+        match (unseen, self.over) {
+            (Some(definition), Over::Book(_, owner)) if !definition.is_seen_by(owner) => {
+                let at = if head == 0 { "" } else { "stuck at " };
+                let name = name(definition.number);
+                let keeper = definition.owner.number();
+                format!("{at}{name}, whose body is closed. Owner {keeper} alone sees it, and this check is for {owner}")
+            }
+            _ => "stuck".to_string(),
+        }
+    }
 }
 
 /// The annotations around a node, the outermost first.
@@ -261,12 +300,4 @@ fn context<'a>(tree: &Tree<'a>, place: usize) -> Vec<&'a [u16]> {
     let mut annotations: Vec<&[u16]> = tree.binders(place).map(|binder| tree.slice(tree.first(binder))).collect();
     annotations.reverse();
     annotations
-}
-
-/// Of a type that does not step: by document 01, star, abstractions, products and up casts are values.
-fn why_no_step(of: &[u16]) -> &'static str {
-    match of[0] {
-        word::STAR | word::ABSTRACTION | word::PRODUCT | word::UP => "a value",
-        _ => "stuck",
-    }
 }

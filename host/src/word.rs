@@ -10,6 +10,9 @@ pub(crate) const RECURSION: u16 = 6;
 /// The variable of index 0.
 pub(crate) const VARIABLE: u16 = 16;
 const LAST_VARIABLE: u16 = 2047;
+/// The name of definition 0.
+pub(crate) const NAME: u16 = 2048;
+const LAST_NAME: u16 = 2079;
 
 /// How many parts follow a word: of words 0–6 the smaller of the word and 2, of the others none.
 pub(crate) fn parts(word: u16) -> usize {
@@ -30,8 +33,13 @@ pub(crate) fn index(word: u16) -> Option<usize> {
     (VARIABLE..=LAST_VARIABLE).contains(&word).then(|| (word - VARIABLE) as usize)
 }
 
+/// The number of the definition that a name names.
+pub(crate) fn definition(word: u16) -> Option<usize> {
+    (NAME..=LAST_NAME).contains(&word).then(|| (word - NAME) as usize)
+}
+
 pub(crate) fn has_meaning(word: u16) -> bool {
-    word <= RECURSION || index(word).is_some()
+    word <= RECURSION || index(word).is_some() || definition(word).is_some()
 }
 
 /// What a node is called.
@@ -44,7 +52,8 @@ pub(crate) fn name(word: u16) -> &'static str {
         ABSTRACTION => "abstraction",
         PRODUCT => "product",
         RECURSION => "recursion",
-        _ if has_meaning(word) => "variable",
+        _ if index(word).is_some() => "variable",
+        _ if has_meaning(word) => "name",
         _ => "word without meaning",
     }
 }

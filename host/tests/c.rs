@@ -60,6 +60,18 @@ fn root() -> PathBuf {
     Path::new(env!("CARGO_MANIFEST_DIR")).join("..")
 }
 
+/// What the example of a book prints, as docs/CALCULUS.md tells it.
+const BOOK: &str = "\
+Bool, closed: typed 0
+true, open: typed 2048
+if, open: typed 5 2048 5 0 5 16 5 17 18
+if true, for owner 1: typed 0
+a cast of true, for owner 1: refused: a cast whose type does not step (refusal 13, place 0)
+a cast of true, for owner 0: typed 5 0 5 16 5 17 18
+run: ended at a value, steps: 7, substitutions: 4, unfoldings: 2, cancelled casts: 1
+state: 0
+";
+
 /// A fresh folder outside the repository, with the library installed in it.
 fn installed(name: &str) -> PathBuf {
     let folder = std::env::temp_dir().join(format!("feguavy-{name}-{}", std::process::id()));
@@ -151,6 +163,62 @@ fn example() {
         for no_word in ["x", "+1", "-1", "65536", "1.0", "0x1", "99999999999999999999999"] {
             assert_eq!(answer(no_word), (2, String::new()), "{no_word}");
         }
+    }
+    remove_dir_all(&folder).unwrap();
+}
+
+#[test]
+fn example_of_a_book() {
+    let folder = installed("book");
+    let source = root().join("host/examples/book.c").canonicalize().unwrap();
+    for (compiler, language) in LANGUAGES {
+        assert_eq!(said(&mut Command::new(build(&folder, compiler, language, &source))), BOOK, "{compiler}");
+    }
+    remove_dir_all(&folder).unwrap();
+}
+
+/// Prints the refusals of calls over a book in their order, each with one thing more set right, and what slices of the right lengths
+/// then answer; and the sizes of the header.
+const BOOKS: &str = r#"
+#include <feguavy.h>
+#include <stdio.h>
+static uint16_t book[FEGUAVY_BOOK_WORDS], work[FEGUAVY_CHECK_WORK(FEGUAVY_LARGEST_LIMIT)], output[FEGUAVY_LONGEST];
+static void add(size_t book_len, uint32_t owner, bool open, uint32_t limit, size_t work_len, size_t output_len, size_t count) {
+    const uint16_t term[3] = {4, 2048, 16};
+    const feguavy_checked r = feguavy_add(book, book_len, owner, open, term, count, limit, work, work_len, output, output_len);
+    printf("%u %u %u\n", r.answer, r.place, r.length);
+}
+int main(void) {
+    const uint16_t star[1] = {0};
+    const size_t all = FEGUAVY_BOOK_WORDS, most = FEGUAVY_CHECK_WORK(FEGUAVY_LARGEST_LIMIT);
+    add(all - 1, FEGUAVY_OWNERS, true, 0, 0, 0, 0);
+    add(all - 1, FEGUAVY_OWNERS - 1, true, 0, 0, 0, 0);
+    add(all - 1, FEGUAVY_OWNERS - 1, true, 64, 0, 0, 0);
+    add(all - 1, FEGUAVY_OWNERS - 1, true, 64, most, 64, 0);
+    add(all, FEGUAVY_OWNERS - 1, true, 64, most, 63, 0);
+    add(all, FEGUAVY_OWNERS - 1, true, 64, most, 64, 0);
+    add(all, FEGUAVY_OWNERS - 1, true, 64, most, 64, 3);
+    printf("%u\n", feguavy_add(book, all, 3, false, star, 1, 1, work, most, output, 1).answer);
+    for (int i = 1; i < FEGUAVY_DEFINITIONS; i++) feguavy_add(book, all, 5, i % 2 == 0, star, 1, 1, work, most, output, 1);
+    for (int i = 0; i < 9; i++) printf("%u ", book[i]);
+    printf("\n");
+    add(all, FEGUAVY_OWNERS - 1, true, 0, 0, 0, 0);
+    add(all, FEGUAVY_OWNERS, true, 0, 0, 0, 0);
+    add(all - 1, FEGUAVY_OWNERS - 1, true, 64, most, 64, 3);
+    return 0;
+}
+"#;
+
+#[test]
+fn numbers_over_a_book() {
+    let folder = installed("books");
+    let source = folder.join("books.c");
+    write(&source, BOOKS).unwrap();
+    let expected =
+        ["19 0 0", "1 0 0", "2 0 0", "3 0 0", "3 0 0", "4 0 0", "17 1 0", "0", "32 3 1 1 1 5 1 1 1 ", "18 0 0", "19 0 0", "3 0 0"];
+    for (compiler, language) in LANGUAGES {
+        let lines = said(&mut Command::new(build(&folder, compiler, language, &source)));
+        assert_eq!(lines.lines().collect::<Vec<_>>(), expected, "{compiler}");
     }
     remove_dir_all(&folder).unwrap();
 }

@@ -34,6 +34,21 @@ fn requests() {
 #[test]
 fn sequences() {
     let compared = compared("serial");
-    assert_eq!(compared.keys().collect::<Vec<_>>(), ["check", "desk new", "desk run", "desk show", "kinds", "part", "run"]);
-    assert!(compared["desk run"] > 100 && compared["desk show"] > 100);
+    let verbs = [
+        "book add",
+        "book check",
+        "book kinds",
+        "book new",
+        "book run",
+        "book show",
+        "check",
+        "desk new",
+        "desk run",
+        "desk show",
+        "kinds",
+        "part",
+        "run",
+    ];
+    assert_eq!(compared.keys().collect::<Vec<_>>(), verbs);
+    assert!(compared["desk run"] > 100 && compared["desk show"] > 100 && compared["book add"] > 30);
 }

@@ -1,6 +1,6 @@
 //! The edges of document 01 and the settled readings of docs/DECISIONS.md.
 
-use feguavy::{part, Buffers, Caller, Desk, End, Ended, Reason, Refusal};
+use feguavy::{part, Buffers, Caller, Desk, End, Ended, Owner, Reason, Refusal};
 
 fn words(text: &str) -> Vec<u16> {
     text.split_whitespace().map(|w| w.parse().unwrap()).collect()
@@ -71,6 +71,36 @@ fn levels_and_lengths() {
     refuses(64, &deep, 8, 64);
     // an earlier 9 comes before a later 5
     refuses(64, &[2, 16, 7], 9, 1);
+}
+
+/// A call that is lent no book reads names against an empty one: 17, where there was 5 before there were books.
+#[test]
+fn names_without_a_book() {
+    for word in 2048..2080 {
+        refuses(64, &[word], 17, 0);
+        refuses(64, &[4, 0, 1, word], 17, 3);
+        let mut buffers = Buffers::for_limit(1);
+        let (ran, state) = buffers.run(&[1, word], 10, Caller::FIRST, Desk::alone(10));
+        assert_eq!((ran.answer, ran.desk), (Err(Refusal { reason: Reason::NameNotThere, place: 1 }), Desk::alone(10)));
+        assert!(state.is_empty());
+        // for a part lookup a list with a name is no term
+        assert!(part(&[1, word], 1).is_empty());
+    }
+    for word in [7, 15, 2080, 2081, 4096, u16::MAX] {
+        refuses(64, &[word], 5, 0);
+    }
+    // 17 stands in the place of 9: after 5 and 8 of the same word, before what is read later
+    refuses(64, &[2, 2048, 7], 17, 1);
+    refuses(64, &[2, 7, 2048], 5, 1);
+    refuses(64, &[2, 16, 2048], 9, 1);
+    refuses(64, &[2, 2048, 16], 17, 1);
+    refuses(64, &[2, 2048], 17, 1);
+    refuses(64, &[0, 2048], 7, 1);
+    let deep = |word: u16| [vec![1; 64], vec![word]].concat();
+    refuses(64, &deep(2048), 8, 64);
+    refuses(64, &deep(2080), 5, 64);
+    // and before any typing
+    refuses(64, &words("2 1 0 2048"), 17, 3);
 }
 
 #[test]
@@ -156,9 +186,13 @@ fn ends_of_runs() {
 
 #[test]
 fn texts() {
-    for (reason, number) in Reason::ALL.into_iter().zip((1..=16).chain([21])) {
+    for (reason, number) in Reason::ALL.into_iter().zip((1..=19).chain([21])) {
         assert_eq!(reason.number(), number);
         assert!(!reason.to_string().is_empty());
     }
     assert_eq!(Caller::try_from(8).unwrap_err().to_string(), "a caller above 7 (refusal 21)");
+    assert_eq!(Owner::try_from(8).unwrap_err().to_string(), "an owner above 7 (refusal 19)");
+    assert_eq!(Reason::ALL.len(), 20);
+    let without_a_place = Reason::ALL.into_iter().filter(|reason| !reason.has_place()).map(Reason::number);
+    assert_eq!(without_a_place.collect::<Vec<_>>(), [1, 2, 3, 4, 18, 19, 21]);
 }

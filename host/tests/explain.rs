@@ -156,10 +156,14 @@ fn lists_that_are_no_term() {
         assert!(explanation.complete && explanation.facts.is_empty());
     };
     says("", None, "The list has 0 words, and a term has 1 to 1,024.");
-    let meaning = "nodes are 0 to 6, and variables 16 to 2,047.";
+    let meaning = "nodes are 0 to 6, variables 16 to 2,047, and names 2,048 to 2,079.";
     says("7", Some("⟦7⟧"), &format!("The word 7 means nothing where the term is awaited: {meaning}"));
     let awaited = "the body of the up cast at place 2 is awaited";
-    says("2 2 3 0 2048 0", Some("2 2 3 0 ⟦2048⟧ 0"), &format!("The word 2048 means nothing where {awaited}: {meaning}"));
+    says("2 2 3 0 2080 0", Some("2 2 3 0 ⟦2080⟧ 0"), &format!("The word 2080 means nothing where {awaited}: {meaning}"));
+    // a name, which was such a word before there were books
+    says("2048", Some("⟦@0⟧"), "@0 names definition 0 of a book, and no book is lent.");
+    says("4 0 2 16 2079", Some("λ x : ⋆. x ⟦@31⟧"), "@31 names definition 31 of a book, and no book is lent.");
+    says("2 2049 7", Some("2 ⟦2049⟧ 7"), "@1 names definition 1 of a book, and no book is lent.");
     says("2 0", Some("2 0 ⟦⟧"), "The list ends after 2 words where the argument of the application at place 0 is awaited.");
     says("0 0", Some("0 ⟦0⟧"), "The term ends before place 1, and one more word follows.");
     says("1 0 7 7", Some("1 0 ⟦7⟧ 7"), "The term ends before place 2, and 2 more words follow.");
@@ -188,6 +192,8 @@ fn calls() {
     let caller = of(Reason::CallerNotAllowed, 1);
     assert_eq!(caller.message, "A run names one of the eight callers of the desk, 0 to 7.");
     assert!(caller.complete && caller.shown.is_none() && caller.facts.is_empty());
+    assert_eq!(of(Reason::BookFull, 1).message, "A book holds 32 definitions, and nothing is ever taken out.");
+    assert_eq!(of(Reason::OwnerNotAllowed, 1).message, "A check over a book, and an adding, names one of eight owners, 0 to 7.");
 }
 
 #[test]
@@ -280,17 +286,17 @@ fn least_limits() {
 /// Any list, any refusal, any limit: there is always something to say, and what is not so is not explained.
 #[test]
 fn of_anything() {
-    const WORDS: [u16; 16] = [0, 0, 0, 0, 1, 2, 2, 3, 4, 4, 5, 5, 6, 16, 17, 7];
+    const WORDS: [u16; 17] = [0, 0, 0, 0, 1, 2, 2, 3, 4, 4, 5, 5, 6, 16, 17, 7, 2048];
     let mut state = 1u64;
     let mut below = |n: usize| {
         state = state.wrapping_mul(6364136223846793005).wrapping_add(1442695040888963407);
         (state >> 33) as usize % n
     };
-    let mut refused = [0; 17];
+    let mut refused = [0; 22];
     for _ in 0..40_000 {
         let mut list: Vec<u16> = Vec::new();
         for _ in 0..1 + below(14) {
-            let kinds = if below(4) == 0 { 16 } else { 15 };
+            let kinds = if below(4) == 0 { 17 } else { 15 };
             list.push(WORDS[below(kinds)]);
         }
         // mostly one term
@@ -309,7 +315,7 @@ fn of_anything() {
             panic!("{list:?} {other} {limit}");
         }
     }
-    for number in [5, 6, 7, 9, 10, 11, 13, 15, 16] {
+    for number in [5, 6, 7, 9, 10, 11, 13, 15, 16, 17] {
         assert!(refused[number] > 0, "{number}: {refused:?}");
     }
 }

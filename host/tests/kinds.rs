@@ -1,6 +1,6 @@
 //! Steps by kind: each count is that of its rule, whatever S_APP and S_CASTDOWN surround the step, and the three add up to the steps.
 
-use feguavy::{Buffers, Caller, Desk, End, Ended, Kind};
+use feguavy::{Book, Buffers, Caller, Desk, End, Ended, Kind, Mark, Owner};
 use std::path::Path;
 
 /// A redex of each kind; each steps to star.
@@ -42,6 +42,32 @@ fn whatever_surrounds_it() {
                 assert_eq!((ended.end, ended.steps, counts(ended)), (End::Stuck, 1, one(kind)), "{surrounded:?}");
             }
         }
+    }
+}
+
+/// A step from a name to its body is an unfolding, whatever surrounds it.
+#[test]
+fn names_unfold() {
+    let (mut book, mut buffers) = (Book::new(), Buffers::for_limit(64));
+    for body in [&[0][..], &[4, 0, 16], &[2049]] {
+        book.add(Owner::FIRST, Mark::Closed, body, &mut buffers).unwrap();
+    }
+    for (term, end, expected) in [
+        (&[2048][..], End::Value, [0, 1, 0]),
+        (&[2, 2048, 0], End::Stuck, [0, 1, 0]),
+        (&[1, 2048], End::Stuck, [0, 1, 0]),
+        (&[1, 3, 2048, 2048], End::Value, [0, 1, 1]),
+        (&[2, 2049, 2048], End::Value, [1, 2, 0]),
+        (&[2, 2050, 0], End::Value, [1, 2, 0]),
+        (&[1, 2, 2, 2050, 0, 0], End::Stuck, [1, 2, 0]),
+        // what is no part that steps is left as it is
+        (&[4, 2048, 2048], End::Value, [0, 0, 0]),
+        (&[3, 2048, 2048], End::Value, [0, 0, 0]),
+        (&[5, 2048, 2048], End::Value, [0, 0, 0]),
+    ] {
+        let (ran, _) = buffers.run_in(&book, term, 1000, Caller::FIRST, Desk::alone(1000));
+        let ended = ran.answer.unwrap();
+        assert_eq!((ended.end, counts(ended), ended.steps), (end, expected, expected.iter().sum()), "{term:?}");
     }
 }
 

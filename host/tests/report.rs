@@ -70,7 +70,7 @@ fn every_stored_report() {
     }
 }
 
-/// The lengths at the bounds, every answer but 1 to 3, which the program's own slices shut out, and every end but 3, which no
+/// The lengths at the bounds, every answer but 1 to 3, 18, 19 and 21, which the program's own slices, limit and caller shut out, and every end but 3, which no
 /// accepted term has.
 #[test]
 fn stored_reports_cover_the_bounds() {
@@ -79,7 +79,7 @@ fn stored_reports_cover_the_bounds() {
     };
     let lengths: BTreeSet<usize> = cases().iter().map(|case| case.input.len()).collect();
     assert!([0, 1, 2, 15, 2047, 2048, 2049, 5000].iter().all(|n| lengths.contains(n)), "{lengths:?}");
-    assert_eq!(numbers("answer="), [0].into_iter().chain(4..=16).collect());
+    assert_eq!(numbers("answer="), [0].into_iter().chain(4..=17).collect());
     assert_eq!(numbers("end="), BTreeSet::from([0, 1, 2, 4]));
 }
 

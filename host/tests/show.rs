@@ -49,6 +49,14 @@ fn by_example() {
         ("16", "#0", "#0"),
         ("4 0 2 16 20", "λ x : ⋆. x #3", "\\ x : *. x #3"),
         ("5 0 17", "⋆ → #0", "* -> #0"),
+        // names of definitions, which no variable has
+        ("2048", "@0", "@0"),
+        ("2079", "@31", "@31"),
+        ("2 2 2049 2048 2049", "@1 @0 @1", "@1 @0 @1"),
+        ("4 2048 2 2050 16", "λ x : @0. @2 x", "\\ x : @0. @2 x"),
+        ("5 2048 5 2048 2048", "@0 → @0 → @0", "@0 -> @0 -> @0"),
+        ("3 2048 1 2049", "cast↑ [@0] cast↓ @1", "castup [@0] castdown @1"),
+        ("6 2048 2 16 2 2048 18", "μ x : @0. x (@0 #1)", "mu x : @0. x (@0 #1)"),
     ] {
         assert_eq!(show(&words(term)).as_deref(), Ok(plain), "{term}");
         assert_eq!(Style { ascii: true, ..Style::default() }.show(&words(term)).as_deref(), Ok(ascii), "{term}");
@@ -60,7 +68,8 @@ fn lists_that_are_no_term() {
     for (list, reason, place) in [
         ("", Reason::LengthNotAllowed, 0),
         ("7", Reason::NoMeaning, 0),
-        ("2 0 2048", Reason::NoMeaning, 2),
+        ("2 0 2080", Reason::NoMeaning, 2),
+        ("2 0 15", Reason::NoMeaning, 2),
         ("2 0", Reason::ListEnds, 2),
         ("0 7", Reason::WordsAfter, 1),
     ] {
@@ -118,9 +127,13 @@ impl Numbers {
     }
 }
 
-/// A term of at most so many nodes more, with free variables among the variables.
+/// A term of at most so many nodes more, with free variables among the variables, and names.
 fn random(numbers: &mut Numbers, left: &mut usize, depth: u16, term: &mut Vec<u16>) {
-    let word = if *left == 0 { numbers.below(2) * 16 } else { [0, 1, 2, 2, 3, 4, 4, 5, 5, 6, 16, 16][numbers.below(12) as usize] };
+    let word =
+        if *left == 0 { numbers.below(2) * 16 } else { [0, 1, 2, 2, 3, 4, 4, 5, 5, 6, 16, 16, 2048][numbers.below(13) as usize] };
+    if word == 2048 {
+        return term.push(2048 + numbers.below(32) as u16);
+    }
     if word == 16 {
         return term.push(16 + numbers.below(depth as u64 + 2) as u16);
     }

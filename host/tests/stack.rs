@@ -1,7 +1,7 @@
 //! The library's own stack stays under 1 MiB: it is painted below a call and looked at afterwards.
 
 use feguavy::shapes::redex;
-use feguavy::{Buffers, Caller, Desk, Ran, LARGEST_LIMIT};
+use feguavy::{Book, Buffers, Caller, Desk, Mark, Owner, Ran, LARGEST_LIMIT};
 use std::hint::black_box;
 
 const DEPTH: usize = 2 << 20;
@@ -80,6 +80,17 @@ fn under_half_a_mebibyte() {
     for (kind, words) in [("left", 951), ("right", 951), ("casts", 750)] {
         let (term, steps) = redex(kind, words);
         most = most.max(stack_of(|b| assert_eq!(run(b, &term, steps + 1).answer.unwrap().steps, steps + 1)));
+    }
+    // over a full book, of bodies and types to the bounds of levels and words, and an adding of the last definition
+    let mut book = Book::new();
+    for i in 0..31 {
+        let body = if i % 2 == 0 { nested(5, 63, i % 4 == 0) } else { nested(4, 63, false) };
+        book.add(Owner::FIRST, Mark::Closed, &body, &mut Buffers::for_limit(LARGEST_LIMIT)).unwrap();
+    }
+    for term in deep.iter().chain([&vec![2078], &vec![2, 2077, 0]]) {
+        most = most.max(stack_of(|b| _ = b.type_in(&book, Owner::FIRST, term)));
+        most = most.max(stack_of(|b| _ = b.run_in(&book, term, 1000, Caller::FIRST, Desk::alone(1000))));
+        most = most.max(stack_of(|b| _ = b.add_to(&mut book.words().to_vec(), Owner::FIRST, Mark::Open, term)));
     }
     println!("at most {most} bytes of stack");
     assert!(most < 1 << 19);

@@ -1,6 +1,6 @@
 //! Calls from several threads at once: there is no shared state, each caller lends its own slices.
 
-use feguavy::{Buffers, Caller, Desk};
+use feguavy::{Book, Buffers, Caller, Desk, Mark, Owner};
 
 #[test]
 fn several_at_once() {
@@ -14,6 +14,26 @@ fn several_at_once() {
                     assert_eq!(buffers.type_of(term), Ok(&[5, 0, 0][..]));
                     let (ran, state) = buffers.run(&[6, 0, 16], thread, Caller::FIRST, Desk::alone(100));
                     assert_eq!((ran.desk, state), (Desk::alone(100 - thread), &[6, 0, 16][..]));
+                }
+            });
+        }
+    });
+}
+
+/// One book, lent to all of them.
+#[test]
+fn several_over_one_book() {
+    let mut book = Book::new();
+    book.add(Owner::FIRST, Mark::Closed, &[4, 0, 4, 16, 16], &mut Buffers::for_limit(64)).unwrap();
+    std::thread::scope(|scope| {
+        for owner in Owner::ALL {
+            let book = &book;
+            scope.spawn(move || {
+                let mut buffers = Buffers::for_limit(64);
+                for _ in 0..1000 {
+                    assert_eq!(buffers.type_in(book, owner, &[2, 2048, 0]), Ok(&[5, 0, 0][..]));
+                    let (ran, state) = buffers.run_in(book, &[2, 2, 2048, 0, 0], 100, Caller::FIRST, Desk::alone(100));
+                    assert_eq!((ran.desk, state), (Desk::alone(97), &[0][..]));
                 }
             });
         }

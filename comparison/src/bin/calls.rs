@@ -2,6 +2,7 @@
 //! of every slice are compared. Exit status 1 at the first difference: the same seed and count lead to it again.
 
 use comparison::grant::needed;
+use comparison::lent::{self, length, Garbage, Lent};
 use comparison::request::{Call, Request, Requests};
 use comparison::side::{asked, proved, reference, Answer, Side};
 use comparison::tally::{report, Tally};
@@ -9,24 +10,8 @@ use feguavy::Desk;
 use reference::gen::Rng;
 use std::process::ExitCode;
 
-/// The most words that lie beside a lent slice.
-const BESIDE: usize = 16;
 /// A little above what a call can ask for.
 const LONGEST_SLICE: usize = feguavy::check_work(feguavy::LARGEST_LIMIT) + 64;
-
-/// A slice to lend, with words on both sides of it, so that a write beside it is seen as well.
-#[derive(Clone)]
-struct Lent {
-    words: Vec<u16>,
-    from: usize,
-    to: usize,
-}
-
-impl Lent {
-    fn slice(&mut self) -> &mut [u16] {
-        &mut self.words[self.from..self.to]
-    }
-}
 
 /// A call with its slices before it.
 #[derive(Clone)]
@@ -39,14 +24,12 @@ struct Case {
 /// Random cases without end, always the same for a seed.
 struct Cases {
     requests: Requests,
-    garbage: Vec<u16>,
+    garbage: Garbage,
 }
 
 impl Cases {
     fn of_seed(seed: u64) -> Cases {
-        let mut numbers = Rng::new(seed);
-        let garbage = (0..2 * LONGEST_SLICE).map(|_| numbers.next() as u16).collect();
-        Cases { requests: Requests::of_seed(seed), garbage }
+        Cases { requests: Requests::of_seed(seed), garbage: Garbage::of_seed(seed, LONGEST_SLICE) }
     }
 
     fn numbers(&mut self) -> &mut Rng {
@@ -110,23 +93,8 @@ impl Cases {
         }
     }
 
-    /// A length at what is asked or around it: mostly enough, since too short a slice ends a call at once.
-    fn length(&mut self, asked: usize) -> usize {
-        let numbers = self.numbers();
-        match numbers.below(24) {
-            0 => 0,
-            1 => asked.saturating_sub(1),
-            2 => numbers.below(asked.max(1)),
-            3..=9 => asked + 1,
-            10..=16 => asked + numbers.below(40),
-            _ => asked,
-        }
-    }
-
     fn lent(&mut self, length: usize) -> Lent {
-        let (from, behind) = (self.numbers().below(BESIDE), self.numbers().below(BESIDE));
-        let at = self.requests.0.r.below(self.garbage.len() - (from + length + behind));
-        Lent { words: self.garbage[at..at + from + length + behind].to_vec(), from, to: from + length }
+        self.garbage.lent(&mut self.requests.0.r, length)
     }
 }
 
@@ -138,7 +106,7 @@ impl Iterator for Cases {
         let term = self.term(term);
         let request = Request { call: self.call(call, &term), term };
         let (work, result) = asked(request.call);
-        let (work, result) = (self.length(work), self.length(result));
+        let (work, result) = (length(self.numbers(), work), length(self.numbers(), result));
         Some(Case { request, work: self.lent(work), result: self.lent(result) })
     }
 }
@@ -166,10 +134,7 @@ fn difference(ours: &Outcome, theirs: &Outcome) -> Option<String> {
         ("working slice", &a.work.words, &b.work.words, a.work.from),
         ("output or state slice", &a.result.words, &b.result.words, a.result.from),
     ];
-    slices.into_iter().filter(|(_, ours, theirs, _)| ours != theirs).find_map(|(name, ours, theirs, from)| {
-        let at = ours.iter().zip(theirs).position(|(a, b)| a != b)?;
-        Some(format!("word {} of the {name}: proved {}, reference {}", at as isize - from as isize, ours[at], theirs[at]))
-    })
+    slices.into_iter().find_map(|(name, ours, theirs, from)| lent::difference(name, ours, theirs, from))
 }
 
 /// Counts the calls, up to the first whose outcomes differ.
@@ -183,7 +148,7 @@ fn compare(
     for (number, case) in Cases::of_seed(seed).take(count).enumerate() {
         let (ours, theirs) = (outcome(&ours, &case), outcome(theirs, &case));
         if let Some(difference) = difference(&ours, &theirs) {
-            let (work, result) = (case.work.to - case.work.from, case.result.to - case.result.from);
+            let (work, result) = (case.work.extent(), case.result.extent());
             return Err(format!(
                 "the outcomes of a call differ\n{}\n{:?}\non a working slice of {work} words and an output or state slice of {result}: \
                  {difference}\n`calls {seed} {}` ends with this call",

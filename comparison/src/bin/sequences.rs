@@ -1,12 +1,12 @@
-//! Random sequences of requests that depend on those before them, answered by the proved program `serial` and by the reference:
-//! `sequences SEED COUNT SERIAL`. Requests that depend on none are among them. Exit status 1 where an answer line differs, or where
-//! what was compared is too little.
+//! Random sequences of requests that depend on those before them, about the desk and about the book, answered by the proved program
+//! `serial` and by the reference: `sequences SEED COUNT SERIAL`. Requests that depend on none are among them. Exit status 1 where an
+//! answer line differs, or where what was compared is too little.
 
 use comparison::grant::needed;
 use comparison::program::{agreed, answers_of_program, answers_of_reference, Asked};
 use comparison::request::{Request, Requests};
 use feguavy::CALLERS;
-use reference::gen::Rng;
+use reference::gen::{Gen, Rng};
 use std::collections::BTreeMap;
 use std::process::ExitCode;
 
@@ -18,13 +18,15 @@ const LENGTH: usize = 200;
 /// Random lines without end, always the same for a seed.
 struct Lines {
     requests: Requests,
+    /// Requests about the book. It is the book of the sequence, which no other request is read against.
+    books: Gen,
     /// What each caller had at first: what is left is no more.
     had: [u32; CALLERS],
 }
 
 impl Lines {
     fn of_seed(seed: u64) -> Lines {
-        Lines { requests: Requests::of_seed(seed), had: [0; CALLERS] }
+        Lines { requests: Requests::of_seed(seed), books: Gen::new(seed), had: [0; CALLERS] }
     }
 
     fn numbers(&mut self) -> &mut Rng {
@@ -53,6 +55,20 @@ impl Lines {
         };
         format!("desk run {caller} {budget} |{words}")
     }
+
+    /// A request of the generator about the book. Some books are let grow until they are full. Its requests `erase` and `next` are of
+    /// change requests that have not landed.
+    fn over_book(&mut self) -> String {
+        loop {
+            let book = self.books.book.clone();
+            let line = self.books.book_line(false);
+            match line.split_whitespace().nth(1) {
+                Some("new") if !self.numbers().one_in(3) => self.books.book = book,
+                Some("new" | "add" | "check" | "run" | "kinds") => return line,
+                _ => (),
+            }
+        }
+    }
 }
 
 impl Iterator for Lines {
@@ -63,6 +79,8 @@ impl Iterator for Lines {
             0 => self.new_desk(),
             1..=19 => "desk show".to_string(),
             20..=29 => self.requests.next().as_ref().map(Request::line)?,
+            30..=34 => "book show".to_string(),
+            35..=114 => self.over_book(),
             _ => self.run(),
         })
     }
@@ -71,13 +89,13 @@ impl Iterator for Lines {
 /// How many of the requests there were, by verb and by kind of answer.
 type Tally = BTreeMap<(String, &'static str, u32), usize>;
 
-/// What a line asks for: a request that depends on none, or one about the desk, runs by their callers.
+/// What a line asks for: a request that depends on none, or one about the book, or about the desk, runs by their callers.
 fn verb(line: &str) -> String {
     let fields: Vec<&str> = line.split_whitespace().collect();
     match fields[..] {
         ["desk", "run", caller, ..] if caller.len() == 1 && caller < "8" => format!("desk run {caller}"),
         ["desk", "run", ..] => "desk run of no caller".to_string(),
-        ["desk", verb, ..] => format!("desk {verb}"),
+        [what @ ("desk" | "book"), verb, ..] => format!("{what} {verb}"),
         _ => "alone".to_string(),
     }
 }
@@ -93,6 +111,9 @@ fn compare(lines: &[String], proved: &[String], reference: &[String]) -> Result<
     asked.extend((2..=4).map(|end| ("desk run 0".to_string(), "ended", end)));
     let others =
         [("desk run of no caller", "refused", 21), ("desk new", "ok", 0), ("desk show", "shown", 0), ("alone", "typed", 0)];
+    let over_book = [("book new", "ok", 0), ("book show", "shown", 0), ("book add", "typed", 0), ("book add", "refused", 17)];
+    let ends = [("book check", "typed", 0), ("book check", "refused", 19), ("book run", "ended", 1), ("book kinds", "ended", 1)];
+    let others = others.into_iter().chain(over_book).chain(ends);
     asked.extend(others.map(|(verb, kind, number)| (verb.to_string(), kind, number)));
     match asked.into_iter().find(|key| !tally.contains_key(key)) {
         Some((verb, kind, number)) => Err(format!("no {verb} answered {kind} {number} among {}", lines.len())),
@@ -120,6 +141,11 @@ fn main() -> ExitCode {
             println!("desk new {}; desk show {}; alone {}", of("desk new", None), of("desk show", None), of("alone", None));
             println!("desk run {}, ended {}", of("desk run", None), ends.join("; "));
             println!("runs by caller, 0 to 7: {}; above 7: {}", callers.join(" "), of("desk run of no caller", None));
+            for verb in ["book new", "book add", "book check", "book run", "book kinds", "book show"] {
+                let answers = tally.iter().filter(|(key, _)| key.0 == verb);
+                let answers: Vec<String> = answers.map(|((_, kind, number), count)| format!("{kind} {number}: {count}")).collect();
+                println!("{verb} {}: {}", of(verb, None), answers.join("; "));
+            }
             ExitCode::SUCCESS
         }
         Err(why) => {
@@ -158,6 +184,11 @@ mod tests {
     fn a_wrong_answer_is_noticed() {
         assert!(compared(|line, _| line == "desk show", |answer| *answer = "desk 0 0 0 0 0 0 0".to_string()).is_err());
         assert!(compared(|line, _| line.starts_with("desk new"), |answer| *answer = "error".to_string()).is_err());
+        let no_name = |line: &str, answer: &str| line.starts_with("book add") && answer.starts_with("refused 17");
+        assert!(compared(no_name, |answer| *answer = answer.replace("17", "9")).is_err());
+        assert!(
+            compared(|line, answer| line == "book show" && answer != "book 0", |answer| *answer = "book 0".to_string()).is_err()
+        );
         let of_no_caller = |_: &str, answer: &str| answer == "refused 21 0";
         assert!(compared(of_no_caller, |answer| *answer = "refused 4 0".to_string()).is_err());
     }
@@ -182,6 +213,9 @@ mod tests {
             Some((budget, words)) => format!("desk run 1 {} |{words}", budget.parse::<u32>().unwrap().min(40)),
             None => line.to_string(),
         }));
+        // additions that store nothing, or whose mark is another
+        assert!(wrong(|line| line.replacen("book add", "book check", 1).replacen("open ", "", 1).replacen("closed ", "", 1)));
+        assert!(wrong(|line| line.replacen("closed", "open", 1)));
         // runs that take nothing
         assert!(wrong(|line| line.strip_prefix("desk run 3 ").map_or(line.to_string(), |_| "desk run 3 0 | 0".to_string())));
     }

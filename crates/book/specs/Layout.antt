@@ -1,4 +1,5 @@
--- The layout of a book in a lent slice, word by word (docs/FORMAT.md), and what is seen of it by a reader.
+-- The layout of a book in a lent slice, word by word, and what is seen of it by a reader. Document 02, 2.3, says what a book holds and not
+-- where; the places are those of docs/FORMAT.md.
 use Prim.Native.Nat.{ℕ, zero, suc, _+_, _*_, _≤_}
 use mathlib.Core.Bool.{Bool, true, cond}
 use mathlib.Core.List.{List, [], _∷_, _++_}
@@ -6,15 +7,15 @@ use mathlib.Core.Option.{some}
 use mathlib.Core.Path.{_≡_}
 use lib.Dec.{eqb}
 use lib.ListN.{length, take, drop, getD}
-use Rattle.calculus.specs.Term.{Term, size}
-use Rattle.calculus.specs.Words.{words, Scoped, Named, longest}
-use Rattle.calculus.specs.Meaning.{meaning}
-use Rattle.calculus.specs.Scan.{node, the-first}
-use Rattle.calculus.specs.Book.{Definition, Book, View, most, entry, bodies, sees, seen}
+use Rattle.calculus.specs.Term.{Term, star, size}
+use Rattle.calculus.specs.Answer.{Answer, ok, refused}
+use Rattle.calculus.specs.Words.{words, Scoped, Named, longest, most}
+use Rattle.calculus.specs.Scan.{read-within, read}
+use Rattle.calculus.specs.Book.{Definition, Book, View, entry, bodies, sees, seen}
 use Rattle.book.specs.declared.Reader.{Reader}
 use Rattle.book.specs.declared.Reader.the-variants as reader
 
--- "Words 1 + 4i … 4 + 4i of definition i its owner, its mark (0 open, 1 closed), the length of its body, the length of its type."
+-- Words 1 + 4i to 4 + 4i are of definition i its owner, its mark (0 open, 1 closed), the length of its body and that of its type.
 abbrev pub owner-at : ℕ → ℕ
 owner-at i = 1 + 4 * i
 
@@ -27,7 +28,7 @@ body-length-at i = 3 + 4 * i
 abbrev pub type-length-at : ℕ → ℕ
 type-length-at i = 4 + 4 * i
 
--- "The body of i from word 464 + 2,048 i on, its type from 1,488 + 2,048 i on."
+-- The body of definition i stands from word 464 + 2,048 i on, its type from 1,488 + 2,048 i on.
 abbrev pub body-at : ℕ → ℕ
 body-at i = 464 + 2048 * i
 
@@ -69,20 +70,25 @@ abbrev pub sight : Reader → Book → View
 sight reader.Everybody B = bodies B
 sight (reader.Owner o) B = seen o B
 
--- The book that the words of a slice spell, whether or not they keep to the layout: what is said of it holds where the slice holds it.
--- The words of a term are read from their end, each with the terms built last as its parts.
-unfoldable pub built : List ℕ → List Term
-built [] = []
-built (w ∷ ws) = node (meaning w) (built ws)
+-- The words of a body and of a type, as many as are noted.
+abbrev pub body-words : List ℕ → ℕ → List ℕ
+body-words slice i = take (getD slice (body-length-at i) 0) (drop (body-at i) slice)
 
-abbrev pub spelt : List ℕ → ℕ → ℕ → Term
-spelt slice at extent = the-first (built (take extent (drop at slice)))
+abbrev pub type-words : List ℕ → ℕ → List ℕ
+type-words slice i = take (getD slice (type-length-at i) 0) (drop (type-at i) slice)
 
+-- The term that was read; star where none was.
+unfoldable pub term-read : Answer Term → Term
+term-read (ok t) = t
+term-read (refused r p) = star
+
+-- Definition `i` as the slice has it. Its body and its type are read over the definitions before it: "a body or its type may name only
+-- those already in the book". The levels of a type are not bounded.
 abbrev pub nth : List ℕ → ℕ → Definition
 nth slice i =
     record {
-      body = spelt slice (body-at i) (getD slice (body-length-at i) 0);
-      type = spelt slice (type-at i) (getD slice (type-length-at i) 0);
+      body = term-read (read i (body-words slice i));
+      type = term-read (read-within longest i (type-words slice i));
       owner = getD slice (owner-at i) 0;
       is-open = eqb (getD slice (mark-at i) 0) 0;
     }
@@ -92,7 +98,7 @@ unfoldable pub definitions : List ℕ → ℕ → Book
 definitions slice zero = []
 definitions slice (suc n) = definitions slice n ++ nth slice n ∷ []
 
--- "Word 0 the count."
+-- Word 0 is the count.
 unfoldable pub decode : List ℕ → Book
 decode slice = definitions slice (getD slice 0 0)
 

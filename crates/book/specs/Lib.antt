@@ -1,2 +1,5 @@
 -- What the contracts of this crate cite.
 pub mod Layout
+pub mod Counting
+pub mod Calls
+pub mod Slices

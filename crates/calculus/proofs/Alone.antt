@@ -24,4 +24,4 @@ left-alone caller desk W S (refused r p) = ap (λ d. record { answer = refused r
 
 pub as-alone : AsAlone
 unfolding run-by course require _>>_ _>>=_
-as-alone B ws budget caller desk W S k = rw (le-leb caller last-caller k) (left-alone caller desk W S _)
+as-alone M ws budget caller desk W S k = rw (le-leb caller last-caller k) (left-alone caller desk W S _)

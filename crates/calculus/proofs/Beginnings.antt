@@ -2,42 +2,42 @@
 -- are decided one after the other. A word that means something is the word of its meaning, so the node made of the parts has it.
 use Prim.Native.Nat.{ℕ, zero, suc, _+_, _<_, max}
 use mathlib.Core.List.{List, [], _∷_}
-use mathlib.Core.Logic.{_≢_, _⊎_, inl, inr}
+use mathlib.Core.Logic.{_⊎_, inl, inr}
 use mathlib.Core.Path.{_≡_, refl, sym, ap, ap₂, _∙_, subst}
 use native.Mathlib.Decide.{decLe}
 use native.Mathlib.Nat.{add-zero}
 use native.Mathlib.Numerals.{add-one}
 use native.Mathlib.Omega.{arith}
 use lib.Dec.{T}
-use Rattle.calculus.specs.Term.{Term, var, star, app, lam, pi, castup, castdown, mu}
+use Rattle.calculus.specs.Term.{Term, var, star, app, lam, pi, castup, castdown, mu, name}
 use Rattle.calculus.specs.Answer.{Reason}
-use Rattle.calculus.specs.Words.{emit, first-part, second-part, levels, Scoped, Named}
+use Rattle.calculus.specs.Words.{emit, first-part, second-part, levels, Scoped, Named, Names}
 use Rattle.calculus.specs.Meaning.{Meaning, a-star, a-castdown, an-app, a-castup, a-lam, a-pi, a-mu, a-variable, a-name, nothing, meaning, binds}
-use Rattle.calculus.specs.Reading.{Begins, Unread, no-word, meaningless, unnamed, too-deep, outside, in-first, in-second}
+use Rattle.calculus.specs.Reading.{Begins, Unread, no-word, meaningless, too-deep, outside, unknown, in-first, in-second}
 use Rattle.calculus.specs.Scan.{means}
-use Rattle.calculus.proofs.Meanings.{word, the-word, sorted}
+use Rattle.calculus.proofs.Meanings.{word, the-word, the-name, sorted}
 
 -- What the words at a place say of a subterm: it is there, or where reading it first fails.
-abbrev pub Told : ℕ → ℕ → ℕ → List ℕ → Type 0
-Told room binders p ws = ((t : Term) × (rest : List ℕ) × Begins room binders ws t rest) ⊎ ((r : Reason) × (q : ℕ) × Unread room binders p ws r q)
+abbrev pub Told : ℕ → ℕ → ℕ → ℕ → List ℕ → Type 0
+Told n room binders p ws = ((t : Term) × (rest : List ℕ) × Begins n room binders ws t rest) ⊎ ((r : Reason) × (q : ℕ) × Unread n room binders p ws r q)
 
-module _ (room binders p w : ℕ) (ws : List ℕ) (below : (b q : ℕ) (vs : List ℕ) → Told room b q vs) where
+module _ (n room binders p w : ℕ) (ws : List ℕ) (below : (b q : ℕ) (vs : List ℕ) → Told n room b q vs) where
   -- A word without parts is its node,
   no-part : (t : Term)
       → ((rest : List ℕ) → emit t rest ≡ w ∷ rest)
       → levels t ≡ 1
       → Scoped binders t
-      → Named 0 t
-      → Told (suc room) binders p (w ∷ ws)
+      → Names n t
+      → Told n (suc room) binders p (w ∷ ws)
   no-part t written deep scoped named =
       inl (t, ws, record { written = sym (written ws); within = omega (arith, deep); scoped = scoped; named = named })
 
   -- a down cast has one part,
-  one-part : meaning w ≡ a-castdown → Told (suc room) binders p (w ∷ ws)
+  one-part : meaning w ≡ a-castdown → Told n (suc room) binders p (w ∷ ws)
   unfolding emit levels Scoped Named means word binds
   one-part h = first (below (binders + 0) (first-part p) ws)
     where
-      first : Told room (binders + 0) (first-part p) ws → Told (suc room) binders p (w ∷ ws)
+      first : Told n room (binders + 0) (first-part p) ws → Told n (suc room) binders p (w ∷ ws)
       first (inl (e, rest, he)) =
           inl (
             castdown e,
@@ -59,17 +59,17 @@ module _ (room binders p w : ℕ) (ws : List ℕ) (below : (b q : ℕ) (vs : Lis
       → ((a e : Term) (rest : List ℕ) → emit (c a e) rest ≡ word m ∷ emit a (emit e rest))
       → ((a e : Term) → levels (c a e) ≡ suc (max (levels a) (levels e)))
       → ((a e : Term) → Scoped binders a → Scoped (binders + k) e → Scoped binders (c a e))
-      → ((a e : Term) → Named 0 a → Named 0 e → Named 0 (c a e))
-      → Told (suc room) binders p (w ∷ ws)
+      → ((a e : Term) → Names n a → Names n e → Names n (c a e))
+      → Told n (suc room) binders p (w ∷ ws)
   two-parts m c k h meant parts written deep scoped named = first (below (binders + 0) (first-part p) ws)
     where
       bound : binds (meaning w) ≡ 0 ∷ k ∷ []
       bound = ap binds h ∙ parts
 
       second : (a : Term) (rest : List ℕ)
-          → Begins room (binders + 0) ws a rest
-          → Told room (binders + k) (second-part p a) rest
-          → Told (suc room) binders p (w ∷ ws)
+          → Begins n room (binders + 0) ws a rest
+          → Told n room (binders + k) (second-part p a) rest
+          → Told n (suc room) binders p (w ∷ ws)
       second a rest ha (inl (e, after, he)) =
           inl (
             c a e,
@@ -83,11 +83,11 @@ module _ (room binders p w : ℕ) (ws : List ℕ) (below : (b q : ℕ) (vs : Lis
           )
       second a rest ha (inr (r, q, f)) = inr (r, q, in-second bound ha f)
 
-      first : Told room (binders + 0) (first-part p) ws → Told (suc room) binders p (w ∷ ws)
+      first : Told n room (binders + 0) (first-part p) ws → Told n (suc room) binders p (w ∷ ws)
       first (inl (a, rest, ha)) = second a rest ha (below (binders + k) (second-part p a) rest)
       first (inr (r, q, f)) = inr (r, q, in-first bound f)
 
-  told-word : (m : Meaning) → meaning w ≡ m → Told (suc room) binders p (w ∷ ws)
+  told-word : (m : Meaning) → meaning w ≡ m → Told n (suc room) binders p (w ∷ ws)
   unfolding means word binds emit levels Scoped Named
   told-word a-star h = no-part star (λ rest. ap (λ v. v ∷ rest) (the-word w h tt)) refl tt tt
   told-word a-castdown h = one-part h
@@ -98,28 +98,27 @@ module _ (room binders p w : ℕ) (ws : List ℕ) (below : (b q : ℕ) (vs : Lis
   told-word a-mu h = two-parts a-mu mu 1 h tt refl (λ a e k. refl) (λ a e. refl) (λ a e i j. (i, rw add-one at j)) (λ a e i j. (i, j))
   told-word (a-variable i) h = on (decLe (suc i) binders)
     where
-      on : Dec (i < binders) → Told (suc room) binders p (w ∷ ws)
+      on : Dec (i < binders) → Told n (suc room) binders p (w ∷ ws)
       on (yes l) = no-part (var i) (λ rest. ap (λ v. v ∷ rest) (the-word w h tt)) refl l tt
-      on (no n) = inr (_, _, outside {binders = binders} h (omega arith))
-  told-word (a-name i) h = inr (_, _, unnamed h)
+      on (no f) = inr (_, _, outside {binders = binders} h (omega arith))
+  told-word (a-name i) h = on (decLe (suc i) n)
+    where
+      on : Dec (i < n) → Told n (suc room) binders p (w ∷ ws)
+      on (yes l) = no-part (name i) (λ rest. ap (λ v. v ∷ rest) (the-word w h tt)) refl tt (omega (arith, l, the-name w h))
+      on (no f) = inr (_, _, unknown {binders = binders} h (omega arith))
   told-word nothing h = inr (_, _, meaningless h)
 
--- What is not read is no meaning that is.
-another : (m n : Meaning) → T (means m) → ¬ T (means n) → m ≢ n
-another m n t k e = k (subst (λ x. T (means x)) e t)
-
 -- Where no level is left, no term fits.
-told-deep : (binders p w : ℕ) (ws : List ℕ) → Told zero binders p (w ∷ ws)
+told-deep : (n binders p w : ℕ) (ws : List ℕ) → Told n zero binders p (w ∷ ws)
 unfolding means
-told-deep binders p w ws = on (sorted (meaning w))
+told-deep n binders p w ws = on (sorted (meaning w))
   where
-    on : (meaning w ≡ nothing) ⊎ ((i : ℕ) × (meaning w ≡ a-name i)) ⊎ T (means (meaning w)) → Told zero binders p (w ∷ ws)
+    on : (meaning w ≡ nothing) ⊎ T (means (meaning w)) → Told n zero binders p (w ∷ ws)
     on (inl e) = inr (_, _, meaningless e)
-    on (inr (inl (i, e))) = inr (_, _, unnamed e)
-    on (inr (inr t)) = inr (_, _, too-deep (another (meaning w) nothing t (λ k. k)) (λ i. another (meaning w) (a-name i) t (λ k. k)))
+    on (inr t) = inr (_, _, too-deep λ e. subst (λ m. T (means m)) e t)
 
-pub told : (room binders p : ℕ) (ws : List ℕ) → Told room binders p ws
-told zero binders p [] = inr (_, _, no-word)
-told zero binders p (w ∷ ws) = told-deep binders p w ws
-told (suc room) binders p [] = inr (_, _, no-word)
-told (suc room) binders p (w ∷ ws) = told-word room binders p w ws (told room) (meaning w) refl
+pub told : (n room binders p : ℕ) (ws : List ℕ) → Told n room binders p ws
+told n zero binders p [] = inr (_, _, no-word)
+told n zero binders p (w ∷ ws) = told-deep n binders p w ws
+told n (suc room) binders p [] = inr (_, _, no-word)
+told n (suc room) binders p (w ∷ ws) = told-word n room binders p w ws (told n room) (meaning w) refl

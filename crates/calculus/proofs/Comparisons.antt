@@ -2,6 +2,7 @@
 -- Stated so, a proof can rewrite a stuck test by its value.
 use Prim.Native.Nat.{ℕ, _≤_, _<_}
 use mathlib.Core.Bool.{Bool, true, false, not, _&&_}
+use mathlib.Core.Logic.{_⊎_, inl, inr}
 use mathlib.Core.Path.{_≡_, refl}
 use native.Mathlib.Decide.{decLe}
 use native.Mathlib.Omega.{arith}
@@ -34,3 +35,12 @@ out-of-range lo n hi out = on (decLe lo n) (decLe n hi)
     on (no f) d = rw (gt-leb lo n (omega arith)) refl
     on (yes h) (no f) = rw (le-leb lo n h, gt-leb n hi (omega arith)) refl
     on (yes h) (yes k) = absurd (out (h, k))
+
+-- Of two numbers one is too small: they fail the two tests in one.
+pub one-short : (m n m′ n′ : ℕ) → (n < m) ⊎ (n′ < m′) → (leb m n && leb m′ n′) ≡ false
+one-short m n m′ n′ (inl h) = rw (gt-leb m n h) refl
+one-short m n m′ n′ (inr h) = rw (gt-leb m′ n′ h) (and-false (leb m n))
+  where
+    and-false : (b : Bool) → (b && false) ≡ false
+    and-false true = refl
+    and-false false = refl

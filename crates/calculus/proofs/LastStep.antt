@@ -8,7 +8,7 @@ use native.Mathlib.Decide.{decLe}
 use native.Mathlib.Nat.{suc-inj}
 use native.Mathlib.Omega.{arith}
 use Rattle.calculus.specs.Term.{Term}
-use Rattle.calculus.specs.Book.{Book, View, bodies}
+use Rattle.calculus.specs.Book.{View, bodies}
 use Rattle.calculus.specs.Run.{End, spent, at-value, at-stuck, too-long, Ends, ends-value, ends-stuck, ends-spent, ends-long}
 use Rattle.calculus.specs.Outcomes.{grant, Ran, run-over}
 use Rattle.calculus.specs.Runs.{Runs, caller-refused, work-refused, state-refused, unread, ended}
@@ -60,7 +60,7 @@ tested-earlier v =
     }
 
 pub earlier-demand2-run : earlier.Demand2-run
-earlier-demand2-run B = run-by-demand (tested-earlier (bodies B))
+earlier-demand2-run M = run-by-demand M (tested-earlier (bodies (M .book)))
 
 -- With the grant used the state tells both ends; with a step left they are one.
 pub one-for-one : OneForOne
@@ -99,21 +99,18 @@ had {v} {g} {n} {x} (ends-stuck h u s) = on (decLe g n)
 had (ends-spent e s) = (spent, earlier.ends-spent e, still-spent e s)
 had (ends-long h s l) = (too-long, earlier.ends-long h s l, as-before {E = too-long} h (λ e. absurd (true≢false (cc e))))
 
-abbrev Changed : Book → List ℕ → ℕ → List ℕ → Ran → Ran → Type 0
-Changed B = EndChanged (bodies B)
-
 pub last-step : LastStep
-last-step B ws budget caller desk W S = on (run-runs B ws budget caller desk W S)
+last-step M ws budget caller desk W S = on (run-runs M ws budget caller desk W S)
   where
-    before : {b c : Ran} → Runs (bodies B) (earlier.Ends (bodies B)) ws budget caller desk W S b → Changed B ws (grant budget caller desk) S b c
-        → Changed B ws (grant budget caller desk) S (earlier.run-over B ws budget caller desk W S) c
+    before : {b c : Ran} → Runs M (earlier.Ends (bodies (M .book))) ws budget caller desk W S b → EndChanged M ws (grant budget caller desk) S b c
+        → EndChanged M ws (grant budget caller desk) S (earlier.run-over M ws budget caller desk W S) c
     before {b} {c} r =
-        subst (λ a. Changed B ws (grant budget caller desk) S a c) (sym (earlier-demand2-run B ws budget caller desk W S b .1 r))
+        subst (λ a. EndChanged M ws (grant budget caller desk) S a c) (sym (earlier-demand2-run M ws budget caller desk W S b .1 r))
 
-    on : {c : Ran} → Runs (bodies B) (Ends (bodies B)) ws budget caller desk W S c
-        → Changed B ws (grant budget caller desk) S (earlier.run-over B ws budget caller desk W S) c
+    on : {c : Ran} → Runs M (Ends (bodies (M .book))) ws budget caller desk W S c
+        → EndChanged M ws (grant budget caller desk) S (earlier.run-over M ws budget caller desk W S) c
     on (caller-refused i) = before (caller-refused i) refused-alike
     on (work-refused i w) = before (work-refused i w) refused-alike
     on (state-refused i w s) = before (state-refused i w s) refused-alike
-    on (unread i w s m) = before (unread i w s m) refused-alike
-    on (ended i w s c h q a b l f) = let (E, e, k) = had f in before (ended i w s c h q a b l e) (ended-alike c h k)
+    on (unread i m) = before (unread i m) refused-alike
+    on (ended i c h q a b l f) = let (E, e, k) = had f in before (ended i c h q a b l e) (ended-alike c h k)

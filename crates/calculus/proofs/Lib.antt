@@ -37,6 +37,7 @@ pub mod Acceptance
 pub mod MoreLimit
 pub mod RunDemand
 pub mod SafetyDemand
+pub mod StillTyped
 pub mod Opening
 pub mod Unclaimed
 pub mod NumberInjective
@@ -45,3 +46,4 @@ pub mod LastStep
 pub mod Alone
 pub mod Rooms
 pub mod Shares
+pub mod Renaming

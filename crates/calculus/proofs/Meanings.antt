@@ -2,13 +2,13 @@
 -- below 32, and a word that is read is the word of its meaning, so that no two words mean the same. A word from 7 on has no parts, whatever it means; how many
 -- the others have is computed, word by word.
 use Prim.Native.Nat.{ℕ, zero, suc, _+_, _-_, _≤_, _<_}
-use mathlib.Core.Bool.{Bool, true, false, cond}
+use mathlib.Core.Bool.{Bool, true, false, true≢false, cond}
 use mathlib.Core.List.{List, [], _∷_}
 use mathlib.Core.Logic.{_⊎_, inl, inr}
 use mathlib.Core.Path.{_≡_, refl, sym, ap, _∙_}
 use native.Mathlib.Nat.{add-sub-cancel-left, add-sub-of-le, add-zero, zero-add}
 use native.Mathlib.Omega.{arith}
-use lib.Dec.{T, ltb, nltb→le}
+use lib.Dec.{T, ltb, ltb→lt, nltb→le}
 use lib.ListN.{length, getD, List·getD-eq-default}
 use Rattle.calculus.specs.Meaning.{Meaning, a-star, a-castdown, an-app, a-castup, a-lam, a-pi, a-mu, a-variable, a-name, nothing, meaning, binds, PartsByFormula}
 use Rattle.calculus.specs.Scan.{means}
@@ -81,32 +81,32 @@ in-order n (m ∷ ms) (suc w) h t = in-order (suc n) ms w (h .1) t ∙ omega ari
 
 pub word-meaning : (w : ℕ) → T (means (meaning w)) → word (meaning w) ≡ w
 unfolding meaning means word In-order
-word-meaning w = go (ltb w 16) (ltb w 2048) (ltb w 2080) refl
+word-meaning w = go (ltb w 16) (ltb w 2048) (ltb w 2080) refl refl
   where
     m : Bool → Bool → Bool → Meaning
     m b c d = cond b (getD nodes w nothing) (cond c (a-variable (w - 16)) (cond d (a-name (w - 2048)) nothing))
 
-    go : (b c d : Bool) → ltb w 16 ≡ b → T (means (m b c d)) → word (m b c d) ≡ w
-    go true c d e t = in-order 0 nodes w (refl, (refl, (refl, (refl, (refl, (refl, (refl, tt))))))) t ∙ zero-add w
-    go false true d e t = add-sub-of-le (nltb→le w 16 (rw e tt))
-    go false false true e t = elim t [ ]
-    go false false false e t = elim t [ ]
+    go : (b c d : Bool) → ltb w 16 ≡ b → ltb w 2048 ≡ c → T (means (m b c d)) → word (m b c d) ≡ w
+    go true c d e f t = in-order 0 nodes w (refl, (refl, (refl, (refl, (refl, (refl, (refl, tt))))))) t ∙ zero-add w
+    go false true d e f t = add-sub-of-le (nltb→le w 16 (rw e tt))
+    go false false true e f t = add-sub-of-le (nltb→le w 2048 (rw f tt))
+    go false false false e f t = elim t [ ]
 
 pub the-word : (w : ℕ) {m : Meaning} → meaning w ≡ m → T (means m) → word m ≡ w
 the-word w e t = ap word (sym e) ∙ word-meaning w (rw e t)
 
--- A word means nothing, or a name, or it is read.
-pub sorted : (m : Meaning) → (m ≡ nothing) ⊎ ((i : ℕ) × (m ≡ a-name i)) ⊎ T (means m)
+-- A word means nothing, or it is read.
+pub sorted : (m : Meaning) → (m ≡ nothing) ⊎ T (means m)
 unfolding means
-sorted a-star = inr (inr tt)
-sorted a-castdown = inr (inr tt)
-sorted an-app = inr (inr tt)
-sorted a-castup = inr (inr tt)
-sorted a-lam = inr (inr tt)
-sorted a-pi = inr (inr tt)
-sorted a-mu = inr (inr tt)
-sorted (a-variable i) = inr (inr tt)
-sorted (a-name i) = inr (inl (i, refl))
+sorted a-star = inr tt
+sorted a-castdown = inr tt
+sorted an-app = inr tt
+sorted a-castup = inr tt
+sorted a-lam = inr tt
+sorted a-pi = inr tt
+sorted a-mu = inr tt
+sorted (a-variable i) = inr tt
+sorted (a-name i) = inr tt
 sorted nothing = inl refl
 
 -- What holds of each word below 7, and of the words from 7 on, holds of every word.
@@ -132,6 +132,30 @@ from-seven P w low of-variable of-name of-nothing =
     either false true d = of-variable
     either false false true = of-name
     either false false false = of-nothing
+
+-- The number of a name is one that has a word.
+pub the-name : (w : ℕ) {i : ℕ} → meaning w ≡ a-name i → i < 32
+unfolding meaning
+the-name w {i} = go (ltb w 16) (ltb w 2048) (ltb w 2080) refl
+  where
+    no-node : (w : ℕ) → getD nodes w nothing ≡ a-name i → ⊥
+    no-node =
+        by-word
+        _
+        (λ e. true≢false (cc e)) (λ e. true≢false (cc e)) (λ e. true≢false (cc e)) (λ e. true≢false (cc e))
+        (λ e. true≢false (cc e)) (λ e. true≢false (cc e)) (λ e. true≢false (cc e))
+        (λ w low e. true≢false (cc (e, List·getD-eq-default nodes nothing low)))
+
+    go : (b c d : Bool)
+        → ltb w 2080 ≡ d
+        → cond b (getD nodes w nothing) (cond c (a-variable (w - 16)) (cond d (a-name (w - 2048)) nothing)) ≡ a-name i
+        → i < 32
+    go true c d f e = absurd (no-node w e)
+    go false true d f e = absurd (true≢false (cc e))
+    go false false true f e =
+        let number : w - 2048 ≡ i = cc e in
+        omega (arith, number, ltb→lt w 2080 (rw f tt))
+    go false false false f e = absurd (true≢false (cc e))
 
 pub no-binds : (w : ℕ) → 7 ≤ w → binds (meaning w) ≡ []
 unfolding binds

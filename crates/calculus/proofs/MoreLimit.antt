@@ -1,9 +1,9 @@
 -- More limit, same verdict. Past the three tests of the call, a check reads the words, which no limit changes, and infers, so it keeps
 -- what inference keeps. By the rules nothing need be inferred: the same derivations hold, since what fits L fits a larger limit, and no
 -- failing test but that of 16 asks for the limit.
-use Prim.Native.Nat.{ℕ, _≤_}
+use Prim.Native.Nat.{ℕ, _≤_, _<_}
 use mathlib.Core.List.{List, []}
-use mathlib.Core.Logic.{_≢_, _⊎_, inl, inr, Dec·and}
+use mathlib.Core.Logic.{_≢_, _⊎_, inl, inr, ⊎-elim}
 use mathlib.Core.Path.{_≡_, refl, sym, ap, ap₂, _∙_}
 use native.Mathlib.Decide.{ℕ-discrete, decLe}
 use native.Mathlib.Nat.{le-refl, le-trans}
@@ -11,45 +11,42 @@ use native.Mathlib.Omega.{arith}
 use lib.Dec.{lit≤}
 use lib.ListN.{length, take}
 use Rattle.calculus.specs.Term.{Term, size}
-use Rattle.calculus.specs.Answer.{Answer, ok, refused, Reason, _>>=_, number, over-limit}
-use Rattle.calculus.specs.Book.{Book, View, types, seen}
+use Rattle.calculus.specs.Answer.{Answer, ok, refused, Reason, _>>=_, number, over-limit, owner-not-allowed}
+use Rattle.calculus.specs.Book.{Book, View, last-owner, types, seen, Lent}
 use Rattle.calculus.specs.Rules.{Context}
 use Rattle.calculus.specs.Limit.{_∣_∣_⊢⟨_⟩_⦂_}
 use Rattle.calculus.specs.Failing.{Fails, star-over, var-over, app-function, app-not-product, app-argument, app-mismatch, app-over, lam-annotation, lam-not-star, lam-body, lam-over, pi-domain, pi-domain-not-star, pi-codomain, pi-codomain-not-star, pi-over, castup-annotation, castup-not-star, castup-body, castup-rests, castup-step-over, castup-mismatch, castup-over, castdown-body, castdown-rests, castdown-over, mu-annotation, mu-not-star, mu-body, mu-mismatch, mu-over, name-over}
 use Rattle.calculus.specs.Scan.{read}
 use Rattle.calculus.specs.Step.{step}
 use Rattle.calculus.specs.Infer.{infer}
-use Rattle.calculus.specs.Outcomes.{largest-limit, check-room, checked, check-by, check-over}
-use Rattle.calculus.specs.Checks.{Allowed, limit-refused, work-refused, output-refused, SameType}
-use Rattle.calculus.specs.MoreLimit.{Settled, told, Admitted, MoreLimit, Over, SettledOrOver, TellsAll, SameOrOver, LessLimit, MoreLimitByRules, Judged, OverLimitBecomes}
+use Rattle.calculus.specs.Outcomes.{check-room, checked, check-by, check-over}
+use Rattle.calculus.specs.Checks.{Admitted, owner-refused, SameType}
+use Rattle.calculus.specs.MoreLimit.{Settled, told, MoreLimit, Over, SettledOrOver, TellsAll, SameOrOver, LessLimit, MoreLimitByRules, Judged, OverLimitBecomes}
 use Rattle.calculus.proofs.Says.{says-ok, says-refused, ok-not-refused}
 use Rattle.calculus.proofs.Limits.{Numbered, Keeps, kept, sixteen, infer-keeps, infer-numbered}
 use Rattle.calculus.proofs.ReadBack.{refused-misread, misread-numbers}
 use Rattle.calculus.proofs.NumberInjective.{number-injective}
-use Rattle.calculus.proofs.CheckDemand.{admitted, check-answer}
+use Rattle.calculus.proofs.CheckDemand.{admitted, check-answer, Entry, turned, entered, entry}
 use Rattle.calculus.proofs.Acceptance.{front-of-begun}
 
--- A check is admitted, or refused by one of 1–3.
-abbrev Admission : Book → ℕ → List ℕ → ℕ → List ℕ → List ℕ → Type 0
-Admission B o ws L W O = Admitted L W O ⊎ ((r : Reason) × (p : ℕ) × (check-over B o ws L W O .answer ≡ refused r p) × (number r ≤ 3))
+-- An owner above 7 is turned away first.
+owner-first : (M : Lent) (o : ℕ) (ws : List ℕ) (L : ℕ) (W O : List ℕ)
+    → last-owner < o
+    → check-over M o ws L W O ≡ record { answer = refused owner-not-allowed 0; work = W; output = O }
+owner-first M o ws L W O i = check-answer M o ws L W O (owner-refused i)
 
-admission : (B : Book) (o : ℕ) (ws : List ℕ) (L : ℕ) (W O : List ℕ) → Admission B o ws L W O
-unfolding number
-admission B o ws L W O = on (Dec·and (decLe 1 L) (decLe L largest-limit)) (decLe (check-room L) (length W)) (decLe L (length O))
+-- A settled check passed the tests 1–3; where the owner is turned away, whatever the limit is.
+settled-entry : (M : Lent) (o : ℕ) (ws : List ℕ) (L : ℕ) (W O : List ℕ)
+    → Settled (check-over M o ws L W O .answer)
+    → (last-owner < o) ⊎ ((o ≤ last-owner) × Admitted M L W O)
+unfolding Settled number
+settled-entry M o ws L W O s = on (decLe o last-owner) (entry M o ws L W O)
   where
-    on : Dec (Allowed L) → Dec (check-room L ≤ length W) → Dec (L ≤ length O) → Admission B o ws L W O
-    on (yes a) (yes w) (yes k) = inl (a, w, k)
-    on (yes a) (yes w) (no k) = inr (_, _, ap (λ c. c .answer) (check-answer B o ws L W O (output-refused a w (omega arith))), lit≤ tt)
-    on (yes a) (no w) k = inr (_, _, ap (λ c. c .answer) (check-answer B o ws L W O (work-refused a (omega arith))), lit≤ tt)
-    on (no n) w k = inr (_, _, ap (λ c. c .answer) (check-answer B o ws L W O (limit-refused n)), lit≤ tt)
-
-admits : (B : Book) (o : ℕ) (ws : List ℕ) (L : ℕ) (W O : List ℕ) → Settled (check-over B o ws L W O .answer) → Admitted L W O
-unfolding Settled
-admits B o ws L W O s = on (admission B o ws L W O)
-  where
-    on : Admission B o ws L W O → Admitted L W O
-    on (inl a) = a
-    on (inr (r, p, e, u)) = absurd (omega (arith, (rw e at s) .0, u))
+    on : Dec (o ≤ last-owner) → Entry M o ws L W O → (last-owner < o) ⊎ ((o ≤ last-owner) × Admitted M L W O)
+    on (no i) e = inl (omega arith)
+    on (yes i) (entered _ a) = inr (i, a)
+    on (yes i) (turned {r} k (inl (l, u, q))) = absurd (omega (arith, (rw (check-answer M o ws L W O k) at s) .0, u))
+    on (yes i) (turned {r} k (inr (e, h))) = inl h
 
 -- What inference answers is settled or 16.
 inferred-settled : {n : ℕ} {x : Answer Term} (L : ℕ) (W O : List ℕ)
@@ -64,16 +61,22 @@ inferred-settled L W O (says-refused {r} {p} (l, u, _)) = on (ℕ-discrete (numb
     on (no n) = inl (omega arith, λ e. omega (arith, n, u, e))
 
 pub settled-or-over : SettledOrOver
-unfolding check-by checked Settled _>>=_
-settled-or-over B o ws L W O (a, w, k) = rw (admitted B o ws L W O a w k) (on (read ws) refl)
+unfolding check-by checked Settled number _>>=_
+settled-or-over M o ws L W O a = by-owner (decLe o last-owner)
   where
     on : (x : Answer Term)
-        → read ws ≡ x
-        → Settled (checked (check-room L) W O (x >>= λ t. infer (types B) (step (seen o B)) L [] 0 t) .answer) ⊎ Over (checked (check-room L) W O (x >>= λ t. infer (types B) (step (seen o B)) L [] 0 t))
-    on (ok t) e = inferred-settled L W O (infer-numbered (types B) (step (seen o B)) L [] 0 t)
+        → read (length (M .book)) ws ≡ x
+        → Settled (checked (check-room L) W O (x >>= λ t. infer (types (M .book)) (step (seen o (M .book))) L [] 0 t) .answer) ⊎ Over (checked (check-room L) W O (x >>= λ t. infer (types (M .book)) (step (seen o (M .book))) L [] 0 t))
+    on (ok t) e = inferred-settled L W O (infer-numbered (types (M .book)) (step (seen o (M .book))) L [] 0 t)
     on (refused r p) e =
-        let (l, u, _) = misread-numbers (refused-misread ws r p e) in
-        inl (omega (arith, l), λ f. omega (arith, u, f))
+        let (n, _) = misread-numbers (refused-misread (length (M .book)) ws r p e) in
+        let high : 3 < number r = ⊎-elim (λ h. omega (arith, h .0)) (λ h. omega (arith, h)) n in
+        let other : number r ≢ 16 = λ f. ⊎-elim (λ h. omega (arith, h .1, f)) (λ h. omega (arith, h, f)) n in
+        inl (high, other)
+
+    by-owner : Dec (o ≤ last-owner) → Settled (check-over M o ws L W O .answer) ⊎ Over (check-over M o ws L W O)
+    by-owner (yes i) = rw (admitted M o ws L W O i a) (on (read (length (M .book)) ws) refl)
+    by-owner (no i) = rw (owner-first M o ws L W O (omega arith)) (inl (lit≤ tt, λ e. omega (arith, e)))
 
 pub tells-all : TellsAll
 unfolding told
@@ -91,7 +94,7 @@ tells-all c c′ e = on (c .answer) (c′ .answer) e
 
 pub less-limit : LessLimit
 unfolding check-by checked told _>>=_
-less-limit B o ws L L′ W W′ O O′ more (a, w, k) (a′, w′, k′) = rw (admitted B o ws L W O a w k, admitted B o ws L′ W′ O′ a′ w′ k′) (on (read ws))
+less-limit M o ws L L′ W W′ O O′ more a a′ = by-owner (decLe o last-owner)
   where
     same : (x : Answer Term) → told (checked (check-room L) W O x) ≡ told (checked (check-room L′) W′ O′ x)
     same (ok τ) = ap (λ ws. ok (size τ, ws)) (front-of-begun τ O ∙ sym (front-of-begun τ O′))
@@ -101,34 +104,52 @@ less-limit B o ws L L′ W W′ O O′ more (a, w, k) (a′, w′, k′) = rw (a
     inferred (kept {x} h) = inl (same x)
     inferred (sixteen {p} h) = inr (p, refl)
 
-    on : (x : Answer Term) → SameOrOver (checked (check-room L) W O (x >>= λ t. infer (types B) (step (seen o B)) L [] 0 t)) (checked (check-room L′) W′ O′ (x >>= λ t. infer (types B) (step (seen o B)) L′ [] 0 t))
-    on (ok t) = inferred (infer-keeps (types B) (step (seen o B)) more [] 0 t (le-refl _))
+    on : (x : Answer Term) → SameOrOver (checked (check-room L) W O (x >>= λ t. infer (types (M .book)) (step (seen o (M .book))) L [] 0 t)) (checked (check-room L′) W′ O′ (x >>= λ t. infer (types (M .book)) (step (seen o (M .book))) L′ [] 0 t))
+    on (ok t) = inferred (infer-keeps (types (M .book)) (step (seen o (M .book))) more [] 0 t (le-refl _))
     on (refused r p) = inl (same (refused r p))
 
+    by-owner : Dec (o ≤ last-owner) → SameOrOver (check-over M o ws L W O) (check-over M o ws L′ W′ O′)
+    by-owner (yes i) = rw (admitted M o ws L W O i a, admitted M o ws L′ W′ O′ i a′) (on (read (length (M .book)) ws))
+    by-owner (no i) = rw (owner-first M o ws L W O (omega arith), owner-first M o ws L′ W′ O′ (omega arith)) (inl refl)
+
 pub more-limit : MoreLimit
-unfolding Settled number
-more-limit B o ws L L′ W W′ O O′ s more a′ = on (less-limit B o ws L L′ W W′ O O′ more (admits B o ws L W O s) a′)
+unfolding Settled number told
+more-limit M o ws L L′ W W′ O O′ s more a′ = by-entry (settled-entry M o ws L W O s)
   where
-    on : SameOrOver (check-over B o ws L W O) (check-over B o ws L′ W′ O′) → told (check-over B o ws L′ W′ O′) ≡ told (check-over B o ws L W O)
+    on : SameOrOver (check-over M o ws L W O) (check-over M o ws L′ W′ O′) → told (check-over M o ws L′ W′ O′) ≡ told (check-over M o ws L W O)
     on (inl e) = sym e
     on (inr (p, e)) = absurd ((rw e at s) .1 refl)
 
+    by-entry : (last-owner < o) ⊎ ((o ≤ last-owner) × Admitted M L W O) → told (check-over M o ws L′ W′ O′) ≡ told (check-over M o ws L W O)
+    by-entry (inl i) = rw (owner-first M o ws L W O i, owner-first M o ws L′ W′ O′ i) refl
+    by-entry (inr (i, a)) = on (less-limit M o ws L L′ W W′ O O′ more a a′)
+
+-- An accepted check passed all its tests.
+accepted-admitted : (M : Lent) (o : ℕ) (ws : List ℕ) (L : ℕ) (W O : List ℕ) (n : ℕ)
+    → check-over M o ws L W O .answer ≡ ok n
+    → Admitted M L W O
+accepted-admitted M o ws L W O n e = on (entry M o ws L W O)
+  where
+    on : Entry M o ws L W O → Admitted M L W O
+    on (turned k _) = absurd (ok-not-refused (sym e ∙ ap (λ c. c .answer) (check-answer M o ws L W O k)))
+    on (entered _ a) = a
+
 pub same-type : SameType
 unfolding Settled
-same-type B o ws L L′ W W′ O O′ n n′ e e′ =
-    let (f, g) = tells-all (check-over B o ws L W O) (check-over B o ws L′ W′ O′) (on (decLe L L′)) in
+same-type M o ws L L′ W W′ O O′ n n′ e e′ =
+    let (f, g) = tells-all (check-over M o ws L W O) (check-over M o ws L′ W′ O′) (on (decLe L L′)) in
     let same : n ≡ n′ = cc (e, e′, f) in
-    (same, g n e ∙ ap (λ k. take k (check-over B o ws L′ W′ O′ .output)) same)
+    (same, g n e ∙ ap (λ k. take k (check-over M o ws L′ W′ O′ .output)) same)
   where
-    settled : Settled (check-over B o ws L W O .answer)
+    settled : Settled (check-over M o ws L W O .answer)
     settled = rw e tt
 
-    settled′ : Settled (check-over B o ws L′ W′ O′ .answer)
+    settled′ : Settled (check-over M o ws L′ W′ O′ .answer)
     settled′ = rw e′ tt
 
-    on : Dec (L ≤ L′) → told (check-over B o ws L W O) ≡ told (check-over B o ws L′ W′ O′)
-    on (yes h) = sym (more-limit B o ws L L′ W W′ O O′ settled h (admits B o ws L′ W′ O′ settled′))
-    on (no h) = more-limit B o ws L′ L W′ W O′ O settled′ (omega arith) (admits B o ws L W O settled)
+    on : Dec (L ≤ L′) → told (check-over M o ws L W O) ≡ told (check-over M o ws L′ W′ O′)
+    on (yes h) = sym (more-limit M o ws L L′ W W′ O O′ settled h (accepted-admitted M o ws L′ W′ O′ n′ e′))
+    on (no h) = more-limit M o ws L′ L W′ W O′ O settled′ (omega arith) (accepted-admitted M o ws L W O n e)
 
 module _ {B : Book} {v : View} {L L′ : ℕ} (more : L ≤ L′) where
   within : {Γ : Context} {e τ : Term} → B ∣ v ∣ Γ ⊢⟨ L ⟩ e ⦂ τ → B ∣ v ∣ Γ ⊢⟨ L′ ⟩ e ⦂ τ
@@ -171,10 +192,10 @@ module _ {B : Book} {v : View} {L L′ : ℕ} (more : L ≤ L′) where
 pub more-limit-by-rules : MoreLimitByRules
 more-limit-by-rules B v L L′ Γ e more = (λ τ. within more, λ p q r n. fails more n)
 
--- A refusal by one of 1–9 is none by 16.
-not-sixteen : {a : Answer ℕ} {r : Reason} {p q : ℕ} → a ≡ refused r q → number r ≤ 9 → a ≡ refused over-limit p → ⊥
+-- A refusal by another number is none by 16.
+not-sixteen : {a : Answer ℕ} {r : Reason} {p q : ℕ} → a ≡ refused r q → number r ≢ 16 → a ≡ refused over-limit p → ⊥
 unfolding number
-not-sixteen {r} e h e′ = let same : r ≡ over-limit = cc (e, e′) in omega (arith, rw same at h)
+not-sixteen {r} e h e′ = let same : r ≡ over-limit = cc (e, e′) in h (ap number same)
 
 -- What inference answers to a term, as an answer of the check.
 judged : {n : ℕ} {x : Answer Term} (L : ℕ) (W O : List ℕ) → Numbered n x → Judged (checked (check-room L) W O x .answer)
@@ -184,15 +205,18 @@ judged L W O (says-refused (l, u, _)) = (l, u)
 
 pub over-limit-becomes : OverLimitBecomes
 unfolding check-by checked number _>>=_
-over-limit-becomes B o ws L L′ W W′ O O′ (p, e) (a′, w′, k′) = by (admission B o ws L W O)
+over-limit-becomes M o ws L L′ W W′ O O′ (p, e) a′ = by (entry M o ws L W O)
   where
     at : (x : Answer Term)
-        → read ws ≡ x
-        → checked (check-room L) W O (x >>= λ t. infer (types B) (step (seen o B)) L [] 0 t) .answer ≡ refused over-limit p
-        → Judged (checked (check-room L′) W′ O′ (x >>= λ t. infer (types B) (step (seen o B)) L′ [] 0 t) .answer)
-    at (ok t) m e = judged L′ W′ O′ (infer-numbered (types B) (step (seen o B)) L′ [] 0 t)
-    at (refused r q) m e = absurd (not-sixteen refl (misread-numbers (refused-misread ws r q m) .1) e)
+        → read (length (M .book)) ws ≡ x
+        → checked (check-room L) W O (x >>= λ t. infer (types (M .book)) (step (seen o (M .book))) L [] 0 t) .answer ≡ refused over-limit p
+        → Judged (checked (check-room L′) W′ O′ (x >>= λ t. infer (types (M .book)) (step (seen o (M .book))) L′ [] 0 t) .answer)
+    at (ok t) m e = judged L′ W′ O′ (infer-numbered (types (M .book)) (step (seen o (M .book))) L′ [] 0 t)
+    at (refused r q) m e =
+        let (n, _) = misread-numbers (refused-misread (length (M .book)) ws r q m) in
+        absurd (not-sixteen refl (λ f. ⊎-elim (λ h. omega (arith, h .1, f)) (λ h. omega (arith, h, f)) n) e)
 
-    by : Admission B o ws L W O → Judged (check-over B o ws L′ W′ O′ .answer)
-    by (inl (a, w, k)) = rw (admitted B o ws L′ W′ O′ a′ w′ k′) (at (read ws) refl (rw (admitted B o ws L W O a w k) at e))
-    by (inr (r, q, e′, u)) = absurd (not-sixteen e′ (omega (arith, u)) e)
+    by : Entry M o ws L W O → Judged (check-over M o ws L′ W′ O′ .answer)
+    by (entered i a) = rw (admitted M o ws L′ W′ O′ i a′) (at (read (length (M .book)) ws) refl (rw (admitted M o ws L W O i a) at e))
+    by (turned k n) =
+        absurd (not-sixteen (ap (λ c. c .answer) (check-answer M o ws L W O k)) (λ f. ⊎-elim (λ h. omega (arith, h .1, f)) (λ h. omega (arith, h .0, f)) n) e)

@@ -5,7 +5,7 @@ use mathlib.Core.Logic.{_≢_}
 use mathlib.Core.Path.{_≡_, refl, sym, ap, _∙_}
 use native.Mathlib.Omega.{arith}
 use lib.ListN.{getD}
-use Rattle.calculus.specs.Answer.{Reason, limit-not-allowed, work-short, output-short, length-not-allowed, no-meaning, list-ends, words-after, level-65, unbound, not-star, not-product, wrong-argument, no-step, wrong-cast, wrong-recursion, over-limit, caller-not-allowed, number, NumbersApart}
+use Rattle.calculus.specs.Answer.{Reason, limit-not-allowed, work-short, output-short, length-not-allowed, no-meaning, list-ends, words-after, level-65, unbound, not-star, not-product, wrong-argument, no-step, wrong-cast, wrong-recursion, over-limit, name-not-there, book-full, owner-not-allowed, caller-not-allowed, number, NumbersApart}
 use Rattle.calculus.specs.Run.{End, at-value, spent, at-stuck, too-long, end-number, EndNumbersApart}
 
 -- A function that another undoes is injective.
@@ -32,9 +32,9 @@ reasons =
     ∷ wrong-cast
     ∷ wrong-recursion
     ∷ over-limit
-    ∷ limit-not-allowed
-    ∷ limit-not-allowed
-    ∷ limit-not-allowed
+    ∷ name-not-there
+    ∷ book-full
+    ∷ owner-not-allowed
     ∷ limit-not-allowed
     ∷ caller-not-allowed
     ∷ []
@@ -57,6 +57,9 @@ reason-found no-step = refl
 reason-found wrong-cast = refl
 reason-found wrong-recursion = refl
 reason-found over-limit = refl
+reason-found name-not-there = refl
+reason-found book-full = refl
+reason-found owner-not-allowed = refl
 reason-found caller-not-allowed = refl
 
 pub number-injective : NumbersApart

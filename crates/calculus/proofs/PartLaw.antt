@@ -15,7 +15,7 @@ use Rattle.calculus.specs.Scan.{read}
 use Rattle.calculus.specs.Outcomes.{Found, absent, parts, nth-part, found-in, found, part}
 use Rattle.calculus.specs.Parts.{PartAt, castdown-1, app-1, app-2, castup-1, castup-2, lam-1, lam-2, pi-1, pi-2, mu-1, mu-2, Finds, the-part, no-such-part, no-closed-term, Lookup, PartWords, FoundWithin}
 use Rattle.calculus.proofs.Coding.{emit-append, size-positive, words-length}
-use Rattle.calculus.proofs.ReadBack.{Read, coded-or-misread, codes-read, coded-not-misread, read-sound}
+use Rattle.calculus.proofs.ReadBack.{codes-read, coded-not-misread, read-sound, refused-misread}
 
 -- A part is found in the list of parts,
 nth-found : {t e : Term} {k p : ℕ} → PartAt t k e p → nth-part (parts t) k 1 ≡ record { start = p; extent = size e }
@@ -69,24 +69,24 @@ found-answer {k} (no-such-part {t} c n) = rw (codes-read c) (on (has t k))
     on : Has t k → nth-part (parts t) k 1 ≡ absent
     on (inl (e, p, h)) = absurd (n e p h)
     on (inr none) = none
-found-answer {ws} {k} (no-closed-term n) = on (read ws) refl
+found-answer {ws} {k} (no-closed-term n) = on (read 0 ws) refl
   where
-    on : (x : Answer Term) → read ws ≡ x → found-in k x ≡ absent
-    on (ok t) e = absurd (n t (read-sound ws t e))
+    on : (x : Answer Term) → read 0 ws ≡ x → found-in k x ≡ absent
+    on (ok t) e = absurd (n t (read-sound 0 ws t e))
     on (refused r p) e = refl
 
 -- One of the cases holds.
 finds : (ws : List ℕ) (k : ℕ) → (f : Found) × Finds ws k f
-finds ws k = by-reading (coded-or-misread ws)
+finds ws k = by-reading (read 0 ws) refl
   where
     by-part : {t : Term} → Codes 0 ws t → Has t k → (f : Found) × Finds ws k f
     by-part c (inl (e, p, h)) = (_, the-part c h)
     by-part c (inr none) =
         (_, no-such-part c λ e p h. omega (arith, size-positive e, ap (λ f. f .extent) (sym (nth-found h) ∙ none)))
 
-    by-reading : Read ws → (f : Found) × Finds ws k f
-    by-reading (inl (t, c)) = by-part c (has t k)
-    by-reading (inr (r, p, m)) = (_, no-closed-term λ t c. coded-not-misread c m)
+    by-reading : (x : Answer Term) → read 0 ws ≡ x → (f : Found) × Finds ws k f
+    by-reading (ok t) e = by-part (read-sound 0 ws t e) (has t k)
+    by-reading (refused r p) e = (_, no-closed-term λ t c. coded-not-misread c (refused-misread 0 ws r p e))
 
 found-finds : (ws : List ℕ) (k : ℕ) → Finds ws k (found ws k)
 found-finds ws k = let (f, h) = finds ws k in subst (Finds ws k) (sym (found-answer h)) h

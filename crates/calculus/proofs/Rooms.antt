@@ -7,7 +7,7 @@ use native.Mathlib.Omega.{arith}
 use lib.ListN.{length}
 use Rattle.calculus.specs.Term.{Term}
 use Rattle.calculus.specs.Answer.{Reason, Answer, ok, refused, _>>=_, _>>_, require}
-use Rattle.calculus.specs.Book.{Book, bodies}
+use Rattle.calculus.specs.Book.{bodies, Lent}
 use Rattle.calculus.specs.Step.{step}
 use Rattle.calculus.specs.Run.{Ended, run-from}
 use Rattle.calculus.specs.Outcomes.{check-room, run-room, verdict, checked, check-by, grant, course, ran, run-by}
@@ -20,14 +20,14 @@ use Rattle.calculus.proofs.CheckDemand.{check-answer}
 use Rattle.calculus.proofs.RunDemand.{run-answer}
 
 module _ (room room′ : ℕ) (W : List ℕ) (h : room ≤ length W) (h′ : room′ ≤ length W) where
-  same-verdict : (B : Book) (o : ℕ) (ws : List ℕ) (L : ℕ) (O : List ℕ) → verdict room B o ws L W O ≡ verdict room′ B o ws L W O
+  same-verdict : (M : Lent) (o : ℕ) (ws : List ℕ) (L : ℕ) (O : List ℕ) → verdict room M o ws L W O ≡ verdict room′ M o ws L W O
   unfolding verdict require _>>_ _>>=_
-  same-verdict B o ws L O = rw (le-leb room (length W) h, le-leb room′ (length W) h′) refl
+  same-verdict M o ws L O = rw (le-leb room (length W) h, le-leb room′ (length W) h′) refl
 
-  same-course : (go : ℕ → Term → Ended) (ws : List ℕ) (g caller : ℕ) (S : List ℕ)
-      → course room go ws g caller W S ≡ course room′ go ws g caller W S
+  same-course : (M : Lent) (go : ℕ → Term → Ended) (ws : List ℕ) (g caller : ℕ) (S : List ℕ)
+      → course room M go ws g caller W S ≡ course room′ M go ws g caller W S
   unfolding course require _>>_ _>>=_
-  same-course go ws g caller S = rw (le-leb room (length W) h, le-leb room′ (length W) h′) refl
+  same-course M go ws g caller S = rw (le-leb room (length W) h, le-leb room′ (length W) h′) refl
 
 -- What holds of an answer of either kind holds.
 either : {A P : Type 0} (a : Answer A) → ((x : A) → a ≡ ok x → P) → ((r : Reason) (p : ℕ) → a ≡ refused r p → P) → P
@@ -36,22 +36,22 @@ either (refused r p) f g = g r p refl
 
 same-check : SameCheck
 unfolding check-by checked
-same-check B o ws L W O h =
-    rw (same-verdict (check-room L) (earlier.check-room L) W (omega arith) (omega arith) B o ws L O)
-    (either (verdict (earlier.check-room L) B o ws L W O) (λ τ e. rw e refl) (λ r p e. rw e refl))
+same-check M o ws L W O h =
+    rw (same-verdict (check-room L) (earlier.check-room L) W (omega arith) (omega arith) M o ws L O)
+    (either (verdict (earlier.check-room L) M o ws L W O) (λ τ e. rw e refl) (λ r p e. rw e refl))
 
 same-run : SameRun
 unfolding run-by ran
-same-run B ws budget caller desk W S h =
+same-run M ws budget caller desk W S h =
     let g = grant budget caller desk in
-    rw (same-course run-room earlier.run-room W (omega arith) (omega arith) (run-from (step (bodies B))) ws g caller S)
-    (either (course earlier.run-room (run-from (step (bodies B))) ws g caller W S) (λ x e. rw e refl) (λ r p e. rw e refl))
+    rw (same-course run-room earlier.run-room W (omega arith) (omega arith) M (run-from (step (bodies (M .book)))) ws g caller S)
+    (either (course earlier.run-room M (run-from (step (bodies (M .book)))) ws g caller W S) (λ x e. rw e refl) (λ r p e. rw e refl))
 
 pub same-as-before : SameAsBefore
 same-as-before = (same-check, same-run)
 
 pub shorter-refused : ShorterRefused
 shorter-refused = (
-  λ B o ws L W O a w. check-answer B o ws L W O (work-refused a w),
-  λ B ws budget caller desk W S k w. run-answer B ws budget caller desk W S (work-refused′ k w),
+  λ M o ws L W O i a w. check-answer M o ws L W O (work-refused i a w),
+  λ M ws budget caller desk W S k w. run-answer M ws budget caller desk W S (work-refused′ k w),
 )

@@ -8,9 +8,10 @@ use mathlib.Core.Logic.{⊎-elim, _≢_}
 use mathlib.Core.Path.{_≡_, sym, _∙_, subst}
 use native.Mathlib.Decide.{decLe}
 use native.Mathlib.Omega.{arith}
+use lib.ListN.{length}
 use Rattle.calculus.specs.Term.{Term, size}
 use Rattle.calculus.specs.Words.{words, Worded, Codes, longest}
-use Rattle.calculus.specs.Book.{Book, bodies}
+use Rattle.calculus.specs.Book.{Book, bodies, Lent}
 use Rattle.calculus.specs.Rules.{_∣_∣_⊢_⦂_}
 use Rattle.calculus.specs.Growing.{GrownFrom, Grown}
 use Rattle.calculus.specs.Run.{State, state-zero, state-suc, End, at-stuck, Ends, ends-value, ends-stuck, ends-spent, ends-long}
@@ -19,12 +20,13 @@ use Rattle.calculus.specs.Runs.{Runs, caller-refused, work-refused, stat
 use Rattle.calculus.specs.Safety.{Only, Safe, Safely, caller-refused as caller-refused′, work-refused as work-refused′, state-refused as state-refused′, ended as ended′, SafeRun, Demand3}
 use Rattle.calculus.proofs.Coding.{worded, words-injective, codes-one}
 use Rattle.calculus.proofs.ReadBack.{coded-not-misread}
+use Rattle.calculus.proofs.Scoping.{codes-more}
 use Rattle.calculus.proofs.Types.{Sound, scoped, correctness, uniqueness}
 use Rattle.calculus.proofs.Safety.{preservation, progress, typed-next, canonical}
 use Rattle.calculus.proofs.Courses.{state-unique}
 use Rattle.calculus.proofs.Books.{seen-in-bodies}
 use Rattle.calculus.proofs.Within.{type-fits}
-use Rattle.calculus.proofs.Soundness.{opened, sound, grown-sound, grown-more}
+use Rattle.calculus.proofs.Soundness.{opened, sound, grown-sound, grown-more, grown-longer}
 use Rattle.calculus.proofs.Acceptance.{accepted}
 use Rattle.calculus.proofs.RunDemand.{run-runs}
 
@@ -56,43 +58,49 @@ module _ (C : Book) (S : Sound C) where
       on before (yes l) = before l
       on before (no n) = (y, subst (λ m. State (bodies C) t m y) (omega arith) (state-suc h s))
 
-  safely : {ws : List ℕ} {budget caller : ℕ} {desk : Desk} {W T : List ℕ} {t τ : Term} {c : Ran}
-      → Codes 0 ws t
-      → C ∣ bodies C ∣ [] ⊢ t ⦂ τ
-      → Runs (bodies C) (Ends (bodies C)) ws budget caller desk W T c
-      → Safely C t τ caller (grant budget caller desk) W T (c .answer)
-  safely c d (caller-refused i) = caller-refused′ i
-  safely c d (work-refused i w) = work-refused′ i w
-  safely c d (state-refused i w s) = state-refused′ i w s
-  safely c d (unread i w s m) = absurd (coded-not-misread c m)
-  safely {t = t} {τ} c d (ended {E} {n} {t = t′} {x} i w s c′ k q a b l f) =
-      ended′ i w s last f (not-stuck (state-typed d last) f) states
+module _ (N : Lent) (S : Sound (N .book)) where
+  safely : {n : ℕ} {ws : List ℕ} {budget caller : ℕ} {desk : Desk} {W T : List ℕ} {t τ : Term} {c : Ran}
+      → n ≤ length (N .book)
+      → Codes n ws t
+      → N .book ∣ bodies (N .book) ∣ [] ⊢ t ⦂ τ
+      → Runs N (Ends (bodies (N .book))) ws budget caller desk W T c
+      → Safely N t τ caller (grant budget caller desk) W T (c .answer)
+  safely m c d (caller-refused i) = caller-refused′ i
+  safely m c d (work-refused i w) = work-refused′ i w
+  safely m c d (state-refused i w s) = state-refused′ i w s
+  safely m c d (unread i u) = absurd (coded-not-misread (codes-more m c) u)
+  safely {t = t} {τ} m c d (ended {E} {n} {t = t′} {x} i c′ k q a b l f) =
+      ended′ i last f (not-stuck (N .book) S (state-typed (N .book) S d last) f) states
     where
       one : t′ ≡ t
       one = codes-one c′ c
 
-      last : State (bodies C) t n x
-      last = subst (λ z. State (bodies C) z n x) one k
+      last : State (bodies (N .book)) t n x
+      last = subst (λ z. State (bodies (N .book)) z n x) one k
 
-      states : (k : ℕ) → k ≤ n → (y : Term) × Only (State (bodies C) t k) y × (size y ≤ longest) × Safe C τ y
+      states : (k : ℕ) → k ≤ n → (y : Term) × Only (State (bodies (N .book)) t k) y × (size y ≤ longest) × Safe (N .book) τ y
       states k l =
-          let (y, q) = state-before k l last in
-          (y, (q, λ z p. state-unique p q), b k y l (subst (λ z. State (bodies C) z k y) (sym one) q), safe (state-typed d q))
+          let (y, q) = state-before (N .book) S k l last in (
+            y,
+            (q, λ z p. state-unique p q),
+            b k y l (subst (λ z. State (bodies (N .book)) z k y) (sym one) q),
+            safe (N .book) S (state-typed (N .book) S d q),
+          )
 
 pub demand3 : Demand3
 demand3 = (runs-safely, λ B v Γ e τ. canonical)
   where
-    runs-safely : (B C : Book) → Grown B → GrownFrom B C → (ws : List ℕ) (budget caller : ℕ) (desk : Desk) (W S : List ℕ)
-        → SafeRun B C ws budget caller desk W S (run-over C ws budget caller desk W S)
-    runs-safely B C g h ws budget caller desk W S o L W₁ O₁ n e =
-        let (t, τ, a) = accepted B g o ws L W₁ O₁ n e in
+    runs-safely : (M N : Lent) → Grown (M .book) → GrownFrom (M .book) (N .book) → (ws : List ℕ) (budget caller : ℕ) (desk : Desk) (W S : List ℕ)
+        → SafeRun M N ws budget caller desk W S (run-over N ws budget caller desk W S)
+    runs-safely M N g h ws budget caller desk W S o L W₁ O₁ n e =
+        let (t, τ, a) = accepted M g o ws L W₁ O₁ n e in
         let (mt, mb) = grown-more h in
-        let d = opened B C mt mb (seen-in-bodies o B) (a .typing .typed) in
+        let d = opened (M .book) (N .book) mt mb (seen-in-bodies o (M .book)) (a .typing .typed) in
         let T = grown-sound (sound g) h in
         let spelt : Worded τ = worded 0 τ (scoped (correctness T d)) (omega (arith, type-fits (a .typing), a .allowed .1)) in (
           t,
           τ,
           (a .coded, λ t′ p. codes-one p (a .coded)),
           ((spelt, sym (a .front)), λ τ′ (s, p). words-injective τ′ τ s spelt (p ∙ a .front)),
-          safely C T (a .coded) d (run-runs C ws budget caller desk W S),
+          safely N T (grown-longer h) (a .coded) d (run-runs N ws budget caller desk W S),
         )

@@ -10,10 +10,10 @@ use native.Mathlib.Nat.{le-refl}
 use lib.Dec.{T, leb}
 use Rattle.calculus.specs.Term.{Term}
 use Rattle.calculus.specs.Words.{first-part, second-part}
-use Rattle.calculus.specs.Answer.{Reason, unbound, Answer, ok, refused, _>>=_, _>>_, require}
+use Rattle.calculus.specs.Answer.{Reason, unbound, name-not-there, Answer, ok, refused, _>>=_, _>>_, require}
 use Rattle.calculus.specs.Meaning.{Meaning, a-star, a-castdown, an-app, a-castup, a-lam, a-pi, a-mu, a-variable, a-name, nothing, meaning, binds}
-use Rattle.calculus.specs.Reading.{Begins, Unread, no-word, meaningless, unnamed, too-deep, outside, in-first, in-second}
-use Rattle.calculus.specs.Scan.{means, bound, test, node, Pending, below, scan}
+use Rattle.calculus.specs.Reading.{Begins, Unread, no-word, meaningless, too-deep, outside, unknown, in-first, in-second}
+use Rattle.calculus.specs.Scan.{means, bound, known, test, node, Pending, below, scan}
 use Rattle.calculus.proofs.Comparisons.{passed, le-leb, gt-leb}
 use Rattle.calculus.proofs.Meanings.{sorted}
 use Rattle.calculus.proofs.ScanWords.{Fills, scan-term}
@@ -36,27 +36,28 @@ binds-one (a-variable i) = tt
 binds-one (a-name i) = tt
 binds-one nothing = tt
 
-meant : (m : Meaning) → m ≢ nothing → ((i : ℕ) → m ≢ a-name i) → means m ≡ true
-meant m n k = on (sorted m)
+meant : (m : Meaning) → m ≢ nothing → means m ≡ true
+meant m n = on (sorted m)
   where
-    on : (m ≡ nothing) ⊎ ((i : ℕ) × (m ≡ a-name i)) ⊎ T (means m) → means m ≡ true
+    on : (m ≡ nothing) ⊎ T (means m) → means m ≡ true
     on (inl e) = absurd (n e)
-    on (inr (inl (i, e))) = absurd (k i e)
-    on (inr (inr t)) = passed (means m) t
+    on (inr t) = passed (means m) t
 
--- A word with parts means something and is no variable.
-parted : (m : Meaning) (b : ℕ) {k : ℕ} {ks : List ℕ} → binds m ≡ k ∷ ks → (means m ≡ true) × (bound m b ≡ true)
-unfolding binds means bound
-parted a-star b e = absurd (true≢false (cc e))
-parted a-castdown b e = (refl, refl)
-parted an-app b e = (refl, refl)
-parted a-castup b e = (refl, refl)
-parted a-lam b e = (refl, refl)
-parted a-pi b e = (refl, refl)
-parted a-mu b e = (refl, refl)
-parted (a-variable i) b e = absurd (true≢false (cc e))
-parted (a-name i) b e = absurd (true≢false (cc e))
-parted nothing b e = absurd (true≢false (cc e))
+-- A word with parts means something and is no variable and no name.
+parted : (n : ℕ) (m : Meaning) (b : ℕ) {k : ℕ} {ks : List ℕ}
+    → binds m ≡ k ∷ ks
+    → (means m ≡ true) × (bound m b ≡ true) × (known n m ≡ true)
+unfolding binds means bound known
+parted n a-star b e = absurd (true≢false (cc e))
+parted n a-castdown b e = (refl, refl, refl)
+parted n an-app b e = (refl, refl, refl)
+parted n a-castup b e = (refl, refl, refl)
+parted n a-lam b e = (refl, refl, refl)
+parted n a-pi b e = (refl, refl, refl)
+parted n a-mu b e = (refl, refl, refl)
+parted n (a-variable i) b e = absurd (true≢false (cc e))
+parted n (a-name i) b e = absurd (true≢false (cc e))
+parted n nothing b e = absurd (true≢false (cc e))
 
 abbrev pending : ℕ → ℕ → Pending
 pending room binders = record { room = room; binders = binders }
@@ -69,65 +70,74 @@ left : (room : ℕ) → leb 1 (suc room) ≡ true
 left room = le-leb 1 (suc room) (omega arith)
 
 -- Where a level is left, a variable outside its binders is refused,
-scan-outside : (room binders w i : ℕ)
+scan-outside : (n room binders w i : ℕ)
     → meaning w ≡ a-variable i
     → binders ≤ i
     → (ws : List ℕ) (ss : List Pending) (p : ℕ)
-    → scan (w ∷ ws) (pending (suc room) binders ∷ ss) p ≡ refused unbound p
+    → scan n (w ∷ ws) (pending (suc room) binders ∷ ss) p ≡ refused unbound p
 unfolding scan test means bound require _>>=_ _>>_
-scan-outside room binders w i e l ws ss p = rw (e, left room, gt-leb (suc i) binders (omega arith)) refl
+scan-outside n room binders w i e l ws ss p = rw (e, left room, gt-leb (suc i) binders (omega arith)) refl
+
+-- so is a name that is not there,
+scan-unknown : (n room binders w i : ℕ)
+    → meaning w ≡ a-name i
+    → n ≤ i
+    → (ws : List ℕ) (ss : List Pending) (p : ℕ)
+    → scan n (w ∷ ws) (pending (suc room) binders ∷ ss) p ≡ refused name-not-there p
+unfolding scan test means bound known require _>>=_ _>>_
+scan-unknown n room binders w i e l ws ss p = rw (e, left room, gt-leb (suc i) n (omega arith)) refl
 
 -- and a word with parts passes its tests, and its parts are awaited.
-scan-parts : (room binders w : ℕ) {k : ℕ} {ks : List ℕ}
+scan-parts : (n room binders w : ℕ) {k : ℕ} {ks : List ℕ}
     → binds (meaning w) ≡ k ∷ ks
     → (ws : List ℕ) (ss : List Pending) (p : ℕ)
-    → scan (w ∷ ws) (pending (suc room) binders ∷ ss) p
-    ≡ (scan ws (map (part-of room binders) (k ∷ ks) ++ ss) (first-part p) >>= λ ts. ok (node (meaning w) ts))
+    → scan n (w ∷ ws) (pending (suc room) binders ∷ ss) p
+    ≡ (scan n ws (map (part-of room binders) (k ∷ ks) ++ ss) (first-part p) >>= λ ts. ok (node (meaning w) ts))
 unfolding scan test require below _>>=_ _>>_
-scan-parts room binders w {k} {ks} e ws ss p =
-    let (m, b) = parted (meaning w) binders e in
+scan-parts n room binders w {k} {ks} e ws ss p =
+    let (m, b, there) = parted n (meaning w) binders e in
     let one : suc room - 1 ≡ room = omega arith in
-    let here : scan (w ∷ ws) (pending (suc room) binders ∷ ss) p ≡ then (suc room - 1) = rw (m, left room, b, e) refl in
+    let here : scan n (w ∷ ws) (pending (suc room) binders ∷ ss) p ≡ then (suc room - 1) = rw (m, left room, b, there, e) refl in
     here ∙ ap then one
   where
     then : ℕ → Answer (List Term)
-    then n = scan ws (map (part-of n binders) (k ∷ ks) ++ ss) (first-part p) >>= λ ts. ok (node (meaning w) ts)
+    then levels = scan n ws (map (part-of levels binders) (k ∷ ks) ++ ss) (first-part p) >>= λ ts. ok (node (meaning w) ts)
 
 -- A part that is there is scanned through.
-scan-first : (room binders : ℕ) (ws : List ℕ) (a : Term) (rest : List ℕ)
-    → Begins room binders ws a rest
+scan-first : (n room binders : ℕ) (ws : List ℕ) (a : Term) (rest : List ℕ)
+    → Begins n room binders ws a rest
     → binders + room ≤ 2032
     → (ss : List Pending) (p : ℕ)
-    → scan ws (pending room binders ∷ ss) (first-part p) ≡ (scan rest ss (second-part p a) >>= λ ts. ok (a ∷ ts))
-scan-first room binders ws a rest b known ss p =
-    let fills : Fills (pending room binders) a = record { scoped = b .scoped; within = b .within; named = b .named } in
-    rw (b .written) (scan-term a (pending room binders) fills (omega (arith, b .within)) rest ss (first-part p))
+    → scan n ws (pending room binders ∷ ss) (first-part p) ≡ (scan n rest ss (second-part p a) >>= λ ts. ok (a ∷ ts))
+scan-first n room binders ws a rest b known ss p =
+    let fills : Fills n (pending room binders) a = record { scoped = b .scoped; within = b .within; named = b .named } in
+    rw (b .written) (scan-term n a (pending room binders) fills (omega (arith, b .within)) rest ss (first-part p))
 
 -- A refusal is the answer of all that waits for it.
 passes : {A B : Type 0} {x : Answer A} {r : Reason} {q : ℕ} (f : A → Answer B) → x ≡ refused r q → (x >>= f) ≡ refused r q
 unfolding _>>=_
 passes f e = ap (λ y. y >>= f) e
 
-pub scan-refuses : {room binders p q : ℕ} {ws : List ℕ} {r : Reason}
-    → Unread room binders p ws r q
+pub scan-refuses : {n room binders p q : ℕ} {ws : List ℕ} {r : Reason}
+    → Unread n room binders p ws r q
     → binders + room ≤ 2032
     → (ss : List Pending)
-    → scan ws (pending room binders ∷ ss) p ≡ refused r q
+    → scan n ws (pending room binders ∷ ss) p ≡ refused r q
 unfolding scan test means bound require _>>=_ _>>_ One-each
 scan-refuses no-word known ss = refl
 scan-refuses (meaningless e) known ss = rw e refl
-scan-refuses (unnamed e) known ss = rw e refl
-scan-refuses (too-deep {w} n k) known ss = rw (meant (meaning w) n k) refl
-scan-refuses (outside {room} {binders} {p} {w} {i} {ws} e l) known ss = scan-outside room binders w i e l ws ss p
-scan-refuses (in-first {room} {binders} {p} {w} {ks} {ws} e u) known ss =
+scan-refuses (too-deep {w} m) known ss = rw (meant (meaning w) m) refl
+scan-refuses {n} (outside {room} {binders} {p} {w} {i} {ws} e l) known ss = scan-outside n room binders w i e l ws ss p
+scan-refuses {n} (unknown {room} {binders} {p} {w} {i} {ws} e l) known ss = scan-unknown n room binders w i e l ws ss p
+scan-refuses {n} (in-first {room} {binders} {p} {w} {ks} {ws} e u) known ss =
     let (small, _) = rw e at (binds-one (meaning w)) in
-    scan-parts room binders w e ws ss p ∙ passes _ (scan-refuses u (omega (arith, small, known)) (map (part-of room binders) ks ++ ss))
-scan-refuses (in-second {room} {binders} {p} {w} {j} {k} {ws} {rest} {a} e b u) known ss =
+    scan-parts n room binders w e ws ss p ∙ passes _ (scan-refuses u (omega (arith, small, known)) (map (part-of room binders) ks ++ ss))
+scan-refuses {n} (in-second {room} {binders} {p} {w} {j} {k} {ws} {rest} {a} e b u) known ss =
     let (small, (small′, _)) = rw e at (binds-one (meaning w)) in
-    scan-parts room binders w e ws ss p
+    scan-parts n room binders w e ws ss p
     ∙ passes
     _
     (
-    scan-first room (binders + j) ws a rest b (omega (arith, small, known)) (part-of room binders k ∷ ss) p
+    scan-first n room (binders + j) ws a rest b (omega (arith, small, known)) (part-of room binders k ∷ ss) p
     ∙ passes _ (scan-refuses u (omega (arith, small′, known)) ss)
     )

@@ -3,12 +3,13 @@
 -- scope to a term in scope takes every term in scope to one, since this goes under a binder; and a body that a name unfolds to is
 -- closed. A substitution leaves a closed term as it is.
 use Prim.Native.Nat.{ℕ, zero, suc, _≤_, _<_, zero-le}
+use mathlib.Core.List.{List}
 use mathlib.Core.Option.{some}
 use mathlib.Core.Path.{_≡_, refl, sym, ap, ap₂, subst}
 use native.Mathlib.Nat.{le-of-suc-le-suc}
 use native.Mathlib.Omega.{arith}
 use Rattle.calculus.specs.Term.{Term, var, star, app, lam, pi, castup, castdown, mu, name, substitute}
-use Rattle.calculus.specs.Words.{Scoped, Named}
+use Rattle.calculus.specs.Words.{Scoped, Named, Names, Codes}
 use Rattle.calculus.specs.Book.{View}
 use Rattle.calculus.specs.Rules.{_⊩_⟶_, s-beta, s-castdownup, s-app, s-castdown, s-mu, s-name}
 use Rattle.calculus.proofs.Parallel.{traverse, lift-index, rename, lift, sub}
@@ -38,6 +39,15 @@ named-more (castup a e) h s = (named-more a h (s .0), named-more e h (s .1))
 named-more (castdown e) h s = named-more e h s
 named-more (mu a e) h s = (named-more a h (s .0), named-more e h (s .1))
 named-more (name i) h s = omega arith
+
+-- What names none but the first `n` definitions has its names below `n`,
+pub named-in : (n : ℕ) (e : Term) → Names n e → Named n e
+named-in n e = named-more e (omega arith)
+
+-- and is a readable term over a book of more.
+pub codes-more : {m n : ℕ} {ws : List ℕ} {t : Term} → m ≤ n → Codes m ws t → Codes n ws t
+codes-more {t = t} h (e, c) =
+    (e, record { closed = c .closed; named = named-more t (omega arith) (c .named); short = c .short; shallow = c .shallow })
 
 module _ {A : Type 0} (v : A → Term) (l : (ℕ → A) → ℕ → A) where
   -- The variables below `n` go to terms with variables below `m`.

@@ -11,7 +11,7 @@ use lib.Seq.{getD-set-other}
 use Rattle.calculus.specs.Term.{Term}
 use Rattle.calculus.specs.Answer.{Answer, ok, refused}
 use Rattle.calculus.specs.Words.{words}
-use Rattle.calculus.specs.Book.{View, bodies}
+use Rattle.calculus.specs.Book.{bodies, Lent}
 use Rattle.calculus.specs.Step.{step}
 use Rattle.calculus.specs.Run.{Ended, Ends, run-from}
 use Rattle.calculus.specs.Outcomes.{run-room, begun, cleared, Desk, allowance-of, lowered, Ran, course, ran, run-by, run}
@@ -60,7 +60,7 @@ viewed c desk W S (refused r p) = refl
 view-of : ℕ → Call → Seen
 view-of allowance k =
     view allowance (k .work) (k .state)
-    (course run-room (run-from (step (bodies []))) (k .words) (min (k .budget) allowance) (k .caller) (k .work) (k .state))
+    (course run-room (k .book) (run-from (step (bodies (k .book .book)))) (k .words) (min (k .budget) allowance) (k .caller) (k .work) (k .state))
 
 own-view : (desk : Desk) (k : Call) → seen-by (k .caller) (served desk k) ≡ view-of (allowance-of desk (k .caller)) k
 unfolding run-by view-of
@@ -71,15 +71,15 @@ unfolding run-by
 other-left c desk k h = others (k .caller) c desk (k .work) (k .state) _ h
 
 -- A run of its own.
-own-left : {v : View} {ws : List ℕ} {budget c : ℕ} {desk : Desk} {W S : List ℕ} {r : Ran}
-    → Runs v (Ends v) ws budget c desk W S r
+own-left : {M : Lent} {ws : List ℕ} {budget c : ℕ} {desk : Desk} {W S : List ℕ} {r : Ran}
+    → Runs M (Ends (bodies (M .book))) ws budget c desk W S r
     → allowance-of desk c ≡ allowance-of (r .desk) c + steps (r .answer)
 unfolding steps
 own-left (caller-refused i) = omega arith
 own-left (work-refused i w) = omega arith
 own-left (state-refused i w s) = omega arith
-own-left (unread i w s m) = omega arith
-own-left {c = c} {desk} (ended {n = n} i w s t h q a b l f) = rw (lowered-own desk c n) (omega arith)
+own-left (unread i m) = omega arith
+own-left {c = c} {desk} (ended {n = n} i t h q a b l f) = rw (lowered-own desk c n) (omega arith)
 
 -- Whose call it is.
 data Whose (caller c : ℕ) : Type 0 where
@@ -106,7 +106,7 @@ module _ (c : ℕ) where
   own-conserved : (desk : Desk) (k : Call)
       → k .caller ≡ c
       → allowance-of desk c ≡ allowance-of (served desk k .desk) c + steps (served desk k .answer)
-  own-conserved desk k e = rw (← e) (own-left (run-runs [] (k .words) (k .budget) (k .caller) desk (k .work) (k .state)))
+  own-conserved desk k e = rw (← e) (own-left (run-runs (k .book) (k .words) (k .budget) (k .caller) desk (k .work) (k .state)))
 
   own-seen : (desk : Desk) (k : Call) → k .caller ≡ c → seen-by c (served desk k) ≡ view-of (allowance-of desk c) k
   own-seen desk k e = rw (← e) (own-view desk k)

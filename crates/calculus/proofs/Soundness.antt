@@ -6,7 +6,8 @@ use mathlib.Core.Logic.{_⊎_, inl, inr}
 use mathlib.Core.Option.{some, Option·none-ne-some}
 use mathlib.Core.Path.{_≡_, refl, sym, subst}
 use native.Mathlib.Omega.{arith}
-use lib.ListN.{length}
+use native.Mathlib.Nat.{le-refl}
+use lib.ListN.{length, length-append}
 use Rattle.calculus.specs.Term.{Term, star}
 use Rattle.calculus.specs.Words.{Scoped}
 use Rattle.calculus.specs.Book.{Definition, Book, View, _⊆_, view, types, bodies, seen}
@@ -84,3 +85,8 @@ grown-more nothing-added = (λ i e h. h, λ i e h. h)
 grown-more (one-added {C} m g l a b r d) =
     let (mt, mb) = grown-more g in
     (λ i e h. types-more C _ i e (mt i e h), λ i e h. bodies-more C _ i e (mb i e h))
+
+pub grown-longer : {B C : Book} → GrownFrom B C → length B ≤ length C
+grown-longer nothing-added = le-refl _
+grown-longer (one-added {C} {t} {τ} {o} m g l a b r d) =
+    omega (arith, grown-longer g, length-append C (record { body = t; type = τ; owner = o; is-open = m } ∷ []))

@@ -10,21 +10,22 @@ use lib.Dec.{lit≤}
 use lib.ListN.{length}
 use Rattle.calculus.specs.Term.{Term, var, star, lam, pi, castdown, mu, name, size, raise, substitute}
 use Rattle.calculus.specs.Answer.{ok, _>>=_, _>>_, require, no-step, wrong-cast}
-use Rattle.calculus.specs.Words.{Scoped, Named, Readable, levels}
-use Rattle.calculus.specs.Book.{Book, View, most, view, types, bodies, seen}
+use Rattle.calculus.specs.Words.{Scoped, Named, Readable, levels, most}
+use Rattle.calculus.specs.Book.{Book, View, view, types, bodies, seen}
 use Rattle.calculus.specs.Rules.{Context, s-name, v-star, env-empty, _∣_∣_⊢_⦂_, t-ax, t-lam, t-castdown, t-mu, t-name}
+use Rattle.calculus.specs.Limit.{largest-limit}
 use Rattle.calculus.specs.Failing.{Fails}
 use Rattle.calculus.specs.Growing.{nothing-added, one-added, Grown}
 use Rattle.calculus.specs.Step.{unfolded, step}
 use Rattle.calculus.specs.Infer.{annotation, stored, same, measure, product, stepped, infer}
-use Rattle.calculus.specs.Outcomes.{largest-limit}
 use Rattle.calculus.specs.Opening.{defined, alike-none, alike-same, alike-closed}
-use Rattle.calculus.specs.Unclaimed.{forged, Forged, needs-0, closed-0, lent, changed, NotCorrect, NotPreserved, NotGrown, TypedOpen}
+use Rattle.calculus.specs.Unclaimed.{forged, Forged, needs-0, closed-0, two-owners, changed, NotCorrect, NotPreserved, NotGrown, TypedOpen}
 use Rattle.calculus.proofs.Says.{ok-not-refused}
 use Rattle.calculus.proofs.Reduction.{value-rests}
 use Rattle.calculus.proofs.Along.{product-typed}
 use Rattle.calculus.proofs.Books.{seen-in-bodies}
 use Rattle.calculus.proofs.Types.{Sound}
+use Rattle.calculus.proofs.Scoping.{named-in}
 use Rattle.calculus.proofs.Soundness.{sound}
 use Rattle.calculus.proofs.Completeness.{refused-complete}
 use Rattle.calculus.proofs.Inference.{infer-sound, refused-sound}
@@ -52,8 +53,9 @@ forged-accepted v =
 added : (C : Book) (m : Bool) {t τ : Term} → Grown C → length C < most → Readable (length C) t
     → infer (types C) (step (seen 0 C)) largest-limit [] 0 t ≡ ok τ
     → Grown (C ++ defined m t τ 0 ∷ [])
-added C m g l c i =
-    one-added m g l (lit≤ tt) (lit≤ tt) c (infer-sound (sound g) (seen-in-bodies 0 C) 0 env-empty (c .closed) (c .named) i)
+added C m {t} g l c i =
+    one-added m g l (lit≤ tt) (lit≤ tt, lit≤ tt) c
+    (infer-sound (sound g) (seen-in-bodies 0 C) 0 env-empty (c .closed) (named-in (length C) t (c .named)) i)
 
 grown-star : Grown (closed-0 star ∷ [])
 unfolding infer _>>=_ _>>_ require measure size Scoped Named levels
@@ -73,41 +75,41 @@ named-1 : (n : ℕ) → 0 < n → Named n needs-0
 unfolding Named
 named-1 n h = ((h, tt), (h, tt))
 
-grown-lent : Grown lent
+grown-two : Grown two-owners
 unfolding infer _>>=_ _>>_ require measure product stepped annotation stored same decide ℕ-discrete size raise substitute step unfolded types seen view Scoped Named levels
-grown-lent =
+grown-two =
     added (closed-0 star ∷ []) true grown-star (lit≤ tt)
     (record { closed = (scoped-1, omega arith); named = (named-1 1 (omega arith), tt); short = lit≤ tt; shallow = lit≤ tt })
     refl
 
 -- For owner 1 the up cast in it is refused by 13.
-fails-1 : Fails lent (seen 1 lent) largest-limit [] 0 needs-0 no-step 4
+fails-1 : Fails two-owners (seen 1 two-owners) largest-limit [] 0 needs-0 no-step 4
 unfolding infer _>>=_ _>>_ require measure product stepped stored same decide ℕ-discrete size substitute step unfolded types seen view
-fails-1 = refused-sound (sound grown-lent) (seen-in-bodies 1 lent) env-empty scoped-1 (named-1 2 (omega arith)) refl
+fails-1 = refused-sound (sound grown-two) (seen-in-bodies 1 two-owners) env-empty scoped-1 (named-1 2 (omega arith)) refl
 
 -- So it has no type there.
-untyped-1 : {τ : Term} → ¬ (lent ∣ seen 1 lent ∣ [] ⊢ needs-0 ⦂ τ)
+untyped-1 : {τ : Term} → ¬ (two-owners ∣ seen 1 two-owners ∣ [] ⊢ needs-0 ⦂ τ)
 untyped-1 d = no-type fails-1 (λ e. absurd (true≢false (cc e))) d
 
-name-1 : lent ∣ seen 1 lent ∣ [] ⊢ name 1 ⦂ needs-0
+name-1 : two-owners ∣ seen 1 two-owners ∣ [] ⊢ name 1 ⦂ needs-0
 unfolding types view
 name-1 = t-name env-empty refl
 
 pub not-correct : NotCorrect
-not-correct = (grown-lent, name-1, untyped-1)
+not-correct = (grown-two, name-1, untyped-1)
 
 pub not-preserved : NotPreserved
 unfolding seen view
-not-preserved = (grown-lent, name-1, (mu needs-0 (var 0), s-name refl, body-untyped))
+not-preserved = (grown-two, name-1, (mu needs-0 (var 0), s-name refl, body-untyped))
   where
-    body-untyped : {τ : Term} → ¬ (lent ∣ seen 1 lent ∣ [] ⊢ mu needs-0 (var 0) ⦂ τ)
+    body-untyped : {τ : Term} → ¬ (two-owners ∣ seen 1 two-owners ∣ [] ⊢ mu needs-0 (var 0) ⦂ τ)
     body-untyped (t-mu e a) = untyped-1 a
 
 pub typed-open : TypedOpen
 unfolding infer _>>=_ _>>_ require measure product stepped stored same decide ℕ-discrete size substitute step unfolded types bodies view
 typed-open =
-    let d = infer-sound (sound grown-lent) (λ i e h. h) {L = largest-limit} 0 env-empty scoped-1 (named-1 2 (omega arith)) refl in
-    (grown-lent, fails-1, d .typed)
+    let d = infer-sound (sound grown-two) (λ i e h. h) {L = largest-limit} 0 env-empty scoped-1 (named-1 2 (omega arith)) refl in
+    (grown-two, fails-1, d .typed)
 
 -- In the changed book the type of definition 1 is refused by 14, with all bodies open; a sound book's types are typed there.
 unsound-changed : ¬ Sound changed
@@ -119,4 +121,4 @@ unsound-changed S = no-type fails (λ e. absurd (true≢false (cc e))) (S .types
 
 pub not-grown : NotGrown
 not-grown =
-    (grown-lent, grown-product, alike-closed {u = 0} (λ e. omega (arith, e)) (alike-same alike-none), λ g. unsound-changed (sound g))
+    (grown-two, grown-product, alike-closed {u = 0} (λ e. omega (arith, e)) (alike-same alike-none), λ g. unsound-changed (sound g))

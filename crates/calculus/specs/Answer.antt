@@ -8,9 +8,9 @@ pub data Reason : Type 0 where
   limit-not-allowed work-short output-short length-not-allowed : Reason
   no-meaning list-ends words-after level-65 unbound : Reason
   not-star not-product wrong-argument no-step wrong-cast wrong-recursion over-limit : Reason
-  caller-not-allowed : Reason
+  name-not-there book-full owner-not-allowed caller-not-allowed : Reason
 
--- The number of each reason: document 01's, and 21 of document 02, 2.9.
+-- The number of each reason: document 01's, 17–19 of document 02, 2.3, and 21 of its 2.9.
 unfoldable pub number : Reason → ℕ
 number limit-not-allowed = 1
 number work-short = 2
@@ -28,6 +28,9 @@ number no-step = 13
 number wrong-cast = 14
 number wrong-recursion = 15
 number over-limit = 16
+number name-not-there = 17
+number book-full = 18
+number owner-not-allowed = 19
 number caller-not-allowed = 21
 
 -- The numbers tell the reasons apart.

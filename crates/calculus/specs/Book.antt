@@ -17,10 +17,7 @@ pub record Definition : Type 0 where
 abbrev pub Book : Type 0
 Book = List Definition
 
--- "Up to 32" definitions, and owners "0–7".
-abbrev pub most : ℕ
-most = 32
-
+-- Owners "0–7".
 abbrev pub last-owner : ℕ
 last-owner = 7
 
@@ -59,3 +56,19 @@ sees o d = d .is-open || eqb (d .owner) o
 
 unfoldable pub seen : ℕ → Book → View
 seen o B = view (λ d. cond (sees o d) (some (d .body)) none) B
+
+-- A book as it is lent: what it holds, and how many words its slice has. "A book, a lent slice of at least 66,000 words (fewer is 3)."
+pub record Lent : Type 0 where
+  pub book : Book
+  pub extent : ℕ
+
+abbrev pub book-room : ℕ
+book-room = 66000
+
+-- A book in a slice of `k` words.
+abbrev pub lent : ℕ → Book → Lent
+lent k B = record { book = B; extent = k }
+
+-- "A call that is lent no book reads names against an empty one": no slice of it is too short.
+abbrev pub no-book : Lent
+no-book = lent book-room []

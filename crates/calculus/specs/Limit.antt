@@ -5,6 +5,13 @@ use Rattle.calculus.specs.Term.{Term, app, lam, pi, castup, castdown, mu
 use Rattle.calculus.specs.Book.{Book, View}
 use Rattle.calculus.specs.Rules.{Context, _⊩_⟶_, _∣_∣_⊢_⦂_}
 
+-- A limit is one of 1–1,024: "L is 0 or above 1,024" is refused.
+abbrev pub largest-limit : ℕ
+largest-limit = 1024
+
+abbrev pub Allowed : ℕ → Type 0
+Allowed L = (1 ≤ L) × (L ≤ largest-limit)
+
 infix 30 _∣_∣_⊢⟨_⟩_⦂_
 -- `Part Γ e Γ′ e′`: `e′`, in the context Γ′, is a part of `e` in Γ; the second part of nodes 4, 5 and 6 stands under its annotation.
 pub data Part : Context → Term → Context → Term → Type 0 where

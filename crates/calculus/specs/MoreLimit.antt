@@ -3,15 +3,15 @@ use Prim.Native.Nat.{ℕ, _≤_, _<_}
 use mathlib.Core.List.{List, [], _∷_}
 use mathlib.Core.Path.{_≡_}
 use mathlib.Core.Logic.{_≢_, _⊎_}
-use lib.ListN.{length, take}
+use lib.ListN.{take}
 use Rattle.calculus.specs.Term.{Term}
 use Rattle.calculus.specs.Answer.{Answer, ok, refused, Reason, number, no-step, over-limit}
-use Rattle.calculus.specs.Book.{Book, View}
+use Rattle.calculus.specs.Book.{Book, View, Lent}
 use Rattle.calculus.specs.Rules.{Context}
 use Rattle.calculus.specs.Limit.{_∣_∣_⊢⟨_⟩_⦂_}
 use Rattle.calculus.specs.Failing.{Fails}
-use Rattle.calculus.specs.Outcomes.{check-room, Checked, check-over}
-use Rattle.calculus.specs.Checks.{Allowed}
+use Rattle.calculus.specs.Outcomes.{Checked, check-over}
+use Rattle.calculus.specs.Checks.{Admitted}
 use Rattle.calculus.specs.Starred.{Row, types, refuses, Claims}
 
 -- An "answer [that] is neither 16 nor one of 1–3".
@@ -27,16 +27,12 @@ told c = tell (c .answer)
     tell (ok n) = ok (n, take n (c .output))
     tell (refused r p) = refused r p
 
--- An "allowed L with slices long enough": no refusal by 1–3.
-abbrev pub Admitted : ℕ → List ℕ → List ℕ → Type 0
-Admitted L W O = Allowed L × (check-room L ≤ length W) × (L ≤ length O)
-
 -- "A check whose answer at L is neither 16 nor one of 1–3 gives that answer, place and type at every larger allowed L with slices
 -- long enough."
 abbrev pub MoreLimit : Type 0
-MoreLimit = (B : Book) (o : ℕ) (ws : List ℕ) (L L′ : ℕ) (W W′ O O′ : List ℕ)
-    → Settled (check-over B o ws L W O .answer) → L ≤ L′ → Admitted L′ W′ O′
-    → told (check-over B o ws L′ W′ O′) ≡ told (check-over B o ws L W O)
+MoreLimit = (M : Lent) (o : ℕ) (ws : List ℕ) (L L′ : ℕ) (W W′ O O′ : List ℕ)
+    → Settled (check-over M o ws L W O .answer) → L ≤ L′ → Admitted M L′ W′ O′
+    → told (check-over M o ws L′ W′ O′) ≡ told (check-over M o ws L W O)
 
 -- A refusal by 16.
 abbrev pub Over : Checked → Type 0
@@ -44,7 +40,7 @@ Over c = (p : ℕ) × (c .answer ≡ refused over-limit p)
 
 -- No answer is left out but 16: a check that is admitted is settled or refused by 16.
 abbrev pub SettledOrOver : Type 0
-SettledOrOver = (B : Book) (o : ℕ) (ws : List ℕ) (L : ℕ) (W O : List ℕ) → Admitted L W O → Settled (check-over B o ws L W O .answer) ⊎ Over (check-over B o ws L W O)
+SettledOrOver = (M : Lent) (o : ℕ) (ws : List ℕ) (L : ℕ) (W O : List ℕ) → Admitted M L W O → Settled (check-over M o ws L W O .answer) ⊎ Over (check-over M o ws L W O)
 
 -- Nothing of an answer is left out: checks that tell the same have the same answer, place and type.
 abbrev pub TellsAll : Type 0
@@ -57,9 +53,9 @@ SameOrOver c c′ = (told c ≡ told c′) ⊎ Over c
 
 -- Read the other way: a smaller limit tells what a larger one tells, or is refused by 16.
 abbrev pub LessLimit : Type 0
-LessLimit = (B : Book) (o : ℕ) (ws : List ℕ) (L L′ : ℕ) (W W′ O O′ : List ℕ)
-    → L ≤ L′ → Admitted L W O → Admitted L′ W′ O′
-    → SameOrOver (check-over B o ws L W O) (check-over B o ws L′ W′ O′)
+LessLimit = (M : Lent) (o : ℕ) (ws : List ℕ) (L L′ : ℕ) (W W′ O O′ : List ℕ)
+    → L ≤ L′ → Admitted M L W O → Admitted M L′ W′ O′
+    → SameOrOver (check-over M o ws L W O) (check-over M o ws L′ W′ O′)
 
 -- The same by the rules: what is typed within L is typed so within every larger limit, and typing that first fails by another
 -- reason than 16 first fails there by that reason at every larger limit.
@@ -75,9 +71,9 @@ Judged (refused r p) = (10 ≤ number r) × (number r ≤ 16)
 
 -- What becomes of 16: such an answer, at any other limit.
 abbrev pub OverLimitBecomes : Type 0
-OverLimitBecomes = (B : Book) (o : ℕ) (ws : List ℕ) (L L′ : ℕ) (W W′ O O′ : List ℕ)
-    → Over (check-over B o ws L W O) → Admitted L′ W′ O′
-    → Judged (check-over B o ws L′ W′ O′ .answer)
+OverLimitBecomes = (M : Lent) (o : ℕ) (ws : List ℕ) (L L′ : ℕ) (W W′ O O′ : List ℕ)
+    → Over (check-over M o ws L W O) → Admitted M L′ W′ O′
+    → Judged (check-over M o ws L′ W′ O′ .answer)
 
 -- Examples, at growing limits. 16 becomes another refusal: a down cast of λ x : ⋆. x is 16 at the abstraction, whose type has three
 -- words, and then 13 at the cast. 16 becomes 16 elsewhere and then a type: λ x : ⋆. λ y : ⋆. y has a type of five words, its body one

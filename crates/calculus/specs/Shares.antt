@@ -5,10 +5,12 @@ use mathlib.Core.List.{List, [], _∷_, map}
 use mathlib.Core.Path.{_≡_}
 use lib.Dec.{eqb}
 use Rattle.calculus.specs.Answer.{Answer, ok, refused}
-use Rattle.calculus.specs.Outcomes.{Desk, allowance-of, Stop, Ran, run}
+use Rattle.calculus.specs.Book.{Lent}
+use Rattle.calculus.specs.Outcomes.{Desk, allowance-of, Stop, Ran, run-over}
 
--- A call of a run: all that is given to it but the desk.
+-- A call of a run: all that is given to it but the desk. A call brings its book.
 pub record Call : Type 0 where
+  pub book : Lent
   pub caller : ℕ
   pub words : List ℕ
   pub budget : ℕ
@@ -17,7 +19,7 @@ pub record Call : Type 0 where
 
 -- What a call leaves, given the desk.
 abbrev pub served : Desk → Call → Ran
-served desk k = run (k .words) (k .budget) (k .caller) desk (k .work) (k .state)
+served desk k = run-over (k .book) (k .words) (k .budget) (k .caller) desk (k .work) (k .state)
 
 -- A call with what it left.
 pub record Entry : Type 0 where

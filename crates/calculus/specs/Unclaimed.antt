@@ -7,11 +7,11 @@ use Rattle.calculus.specs.Term.{Term, var, star, app, lam, pi, castup, c
 use Rattle.calculus.specs.Answer.{Reason, ok, no-step}
 use Rattle.calculus.specs.Book.{Definition, Book, View, types, bodies, seen}
 use Rattle.calculus.specs.Rules.{_⊩_⟶_, _∣_∣_⊢_⦂_}
+use Rattle.calculus.specs.Limit.{largest-limit}
 use Rattle.calculus.specs.Failing.{Fails}
 use Rattle.calculus.specs.Growing.{Grown}
 use Rattle.calculus.specs.Step.{step}
 use Rattle.calculus.specs.Infer.{infer}
-use Rattle.calculus.specs.Outcomes.{largest-limit}
 use Rattle.calculus.specs.Opening.{defined, Alike}
 
 -- "Whether a stored type is the body's isn't tested": a book whose stored type, the words `1 0`, is no type at all.
@@ -37,18 +37,18 @@ closed-0 t = defined false t star 0
 abbrev pub open-1 : Definition
 open-1 = defined true (mu needs-0 (var 0)) needs-0 0
 
-abbrev pub lent : Book
-lent = closed-0 star ∷ open-1 ∷ []
+abbrev pub two-owners : Book
+two-owners = closed-0 star ∷ open-1 ∷ []
 
 -- Against correctness of types at a view that is not all-open: over a grown book, for owner 1, `2049` has a type that is not of type
 -- star.
 abbrev pub NotCorrect : Type 0
-NotCorrect = Grown lent × (lent ∣ seen 1 lent ∣ [] ⊢ name 1 ⦂ needs-0) × ¬ (lent ∣ seen 1 lent ∣ [] ⊢ needs-0 ⦂ star)
+NotCorrect = Grown two-owners × (two-owners ∣ seen 1 two-owners ∣ [] ⊢ name 1 ⦂ needs-0) × ¬ (two-owners ∣ seen 1 two-owners ∣ [] ⊢ needs-0 ⦂ star)
 
 -- Against preservation there: its next state has not its type.
 abbrev pub NotPreserved : Type 0
-NotPreserved = Grown lent × (lent ∣ seen 1 lent ∣ [] ⊢ name 1 ⦂ needs-0)
-    × ((x : Term) × (seen 1 lent ⊩ name 1 ⟶ x) × ¬ (lent ∣ seen 1 lent ∣ [] ⊢ x ⦂ needs-0))
+NotPreserved = Grown two-owners × (two-owners ∣ seen 1 two-owners ∣ [] ⊢ name 1 ⦂ needs-0)
+    × ((x : Term) × (seen 1 two-owners ⊩ name 1 ⟶ x) × ¬ (two-owners ∣ seen 1 two-owners ∣ [] ⊢ x ⦂ needs-0))
 
 -- The book with another body of the same type for definition 0, `5 0 0`.
 abbrev pub changed : Book
@@ -57,9 +57,9 @@ changed = closed-0 (pi star star) ∷ open-1 ∷ []
 -- Against isolation of typing: that body may have been added in the place of the other, and for owner 1 the books are alike; but the
 -- changed one is not grown, since the type of definition 1 is none there.
 abbrev pub NotGrown : Type 0
-NotGrown = Grown lent × Grown (closed-0 (pi star star) ∷ []) × Alike 1 lent changed × ¬ Grown changed
+NotGrown = Grown two-owners × Grown (closed-0 (pi star star) ∷ []) × Alike 1 two-owners changed × ¬ Grown changed
 
 -- Against `Untypable` carried from a view to all bodies open: for owner 1 the type itself is 13 at place 4, and with all open it has the
 -- type star.
 abbrev pub TypedOpen : Type 0
-TypedOpen = Grown lent × Fails lent (seen 1 lent) largest-limit [] 0 needs-0 no-step 4 × (lent ∣ bodies lent ∣ [] ⊢ needs-0 ⦂ star)
+TypedOpen = Grown two-owners × Fails two-owners (seen 1 two-owners) largest-limit [] 0 needs-0 no-step 4 × (two-owners ∣ bodies two-owners ∣ [] ⊢ needs-0 ⦂ star)

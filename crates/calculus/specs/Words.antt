@@ -1,5 +1,5 @@
 -- The words of a term (document 01, Words; document 02, 2.3), and which terms can be read.
-use Prim.Native.Nat.{ℕ, suc, _+_, _≤_, _<_, max}
+use Prim.Native.Nat.{ℕ, suc, _+_, _≤_, _<_, min, max}
 use mathlib.Core.List.{List, [], _∷_}
 use mathlib.Core.Path.{_≡_}
 use Rattle.calculus.specs.Term.{Term, var, star, app, lam, pi, castup, castdown, mu, name, size}
@@ -83,12 +83,26 @@ longest = 1024
 abbrev pub deepest : ℕ
 deepest = 64
 
--- A closed term of those sizes that names `n` definitions at most: "a term within the stated sizes".
+-- A book holds "up to 32" definitions.
+abbrev pub most : ℕ
+most = 32
+
+-- Every name is one of the first `n` definitions, and has a word.
+abbrev pub Names : ℕ → Term → Type 0
+Names n t = Named (min n most) t
+
+-- A closed term of those sizes that names none but the first `n` definitions: "a term within the stated sizes".
 pub record Readable (n : ℕ) (t : Term) : Type 0 where
   pub closed : Scoped 0 t
-  pub named : Named n t
+  pub named : Names n t
   pub short : size t ≤ longest
   pub shallow : levels t ≤ deepest
+
+-- The same without a bound of levels: what may be stored as a type.
+pub record Storable (n : ℕ) (t : Term) : Type 0 where
+  pub closed : Scoped 0 t
+  pub named : Names n t
+  pub short : size t ≤ longest
 
 -- The list `ws` is the readable term `t`.
 abbrev pub Codes : ℕ → List ℕ → Term → Type 0

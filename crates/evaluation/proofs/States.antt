@@ -16,7 +16,7 @@ use Rattle.calculus.specs.Step as calculus
 use Rattle.calculus.specs.Outcomes.{begun}
 use Rattle.calculus.proofs.Coding.{words-length, worded}
 use Rattle.calculus.proofs.Stepping.{next-step}
-use Rattle.calculus.proofs.Scoping.{scoped-more}
+use Rattle.calculus.proofs.Scoping.{scoped-more, named-in}
 use Rattle.calculus.specs.Infer.{Fitted}
 use Rattle.calculus.proofs.Found.{step-fitted}
 use Rattle.term.specs.Kept.{kept}
@@ -102,7 +102,8 @@ pub noted-held : {N : ℕ} (ws : List ℕ) {t : Term} (slice : List ℕ) {after 
     → 2 * longest ≤ length slice
     → after ≡ sets slice 0 (kept t)
     → Holds N after (length ws) t
-noted-held ws {t} slice h r l e = rw (h, words-length t) (stored-held slice t (r .short) l e (r .closed, r .named))
+noted-held {N} ws {t} slice h r l e =
+    rw (h, words-length t) (stored-held slice t (r .short) l e (r .closed, named-in N t (r .named)))
 
 -- A step of the state `x`, written into a slice `out` as long as the room for a state, which it leaves as `after`. The buffer
 -- `next` begins with that.

@@ -1,6 +1,7 @@
 // Runs (document 01, Calls): a closed term stepped within a grant over a book, of which "runs unfold all" (document 02, 2.3), and the
 // desk from which the steps are taken (document 02, 2.9).
 use book::Reader;
+use book::definitions;
 use kept::clearing::clear;
 use kept::keeping::note;
 use kept::keeping::spell;
@@ -16,19 +17,23 @@ use term::refusal::Refusal;
 ghost use mathlib.Core.Path.{_≡_};
 ghost use Prim.Native.Nat.{ℕ, _+_, _*_, _≤_, _<_};
 ghost use mathlib.Core.Bool.{not};
-ghost use mathlib.Core.List.{List, []};
+ghost use mathlib.Core.List.{List};
+ghost use lib.Dec.{leb};
 ghost use lib.ListN.{length, take, drop};
 ghost use Rattle.calculus.specs.Term.{Term};
-ghost use Rattle.calculus.specs.Book.{Book, bodies};
+ghost use Rattle.calculus.specs.Book.{Book, Lent, bodies, book-room, no-book};
 ghost use Rattle.calculus.specs.Words.{Readable, words, longest};
 ghost use Rattle.calculus.specs.Step as calculus;
 ghost use Rattle.calculus.specs.Answer.{refused};
 ghost use Rattle.calculus.specs.Kinds.{counting};
 ghost use Rattle.calculus.specs.Run.{last-end, run-from};
-ghost use Rattle.calculus.specs.Outcomes.{allowance-of, alone, last-caller, lowered, run, run-room};
+ghost use Rattle.calculus.specs.Outcomes.{allowance-of, alone, last-caller, lowered, run, run-over, run-room};
 ghost use Rattle.calculus.specs.Safety.{SafeRun};
 ghost use Rattle.term.specs.Reasons.{reason-of};
 ghost use Rattle.book.specs.Layout as layout;
+ghost use Rattle.book.specs.Counting.{lent-in};
+ghost use Rattle.book.specs.Calls.{run-in};
+ghost use Rattle.book.specs.Slices.{AddedTo, GrownSlice};
 ghost use Rattle.reduction.specs.Stepping.{Held, Keeps, kind-of};
 ghost use Rattle.evaluation.specs.Courses.{AddUp, Advances, Goes, Holds, Performs, buffer, ended};
 ghost use Rattle.evaluation.specs.Outcomes.{answer-of, counts-of, end-of, ran-of};
@@ -264,8 +269,10 @@ fn refused(reason: Reason, place: usize, desk: Desk) -> Outcome
     }
 }
 
-// A run of document 01, for one of the callers of the desk. Any slice holds the empty book, so an empty part of the words is lent for it.
-pub fn run(
+// A run over a book that the slice holds; `enough` tells whether the slice that lends it is long enough.
+fn run_over(
+    book: &[u16],
+    enough: bool,
     term: &[u16],
     budget: u32,
     work: &mut [u16],
@@ -273,8 +280,8 @@ pub fn run(
     caller: u32,
     desk: Desk,
 ) -> Outcome
-    ensures outcome { λ r. ⌜ ran-of r (now (work .exit)) (now (state .exit)) ≡ run (now (term .entry)) budget caller (desk .allowances) (now (work .entry)) (now (state .entry)) ⌝ }
-    ensures safety { λ r. ⌜ SafeRun [] [] (now (term .entry)) budget caller (desk .allowances) (now (work .entry)) (now (state .entry)) (ran-of r (now (work .exit)) (now (state .exit))) ⌝ }
+    requires { ⌜ layout.Holds (layout.decode (now book)) (now book) ⌝ }
+    ensures { λ r. ⌜ ((M : Lent) → M .book ≡ layout.decode (now (book .entry)) → enough ≡ leb book-room (M .extent) → ran-of r (now (work .exit)) (now (state .exit)) ≡ run-over M (now (term .entry)) budget caller (desk .allowances) (now (work .entry)) (now (state .entry))) ⌝ }
 {
     if 7 < caller {
         return refused(Reason::CallerNotAllowed, 0, desk);
@@ -285,7 +292,10 @@ pub fn run(
     if state.len() < 1024 {
         return refused(Reason::OutputShort, 0, desk);
     }
-    if let Reading::Refused(refusal) = read(term) {
+    if !enough {
+        return refused(Reason::OutputShort, 0, desk);
+    }
+    if let Reading::Refused(refusal) = read(term, definitions(book)) {
         let reason = refusal.reason;
         return refused(reason, refusal.place, desk);
     }
@@ -295,6 +305,46 @@ pub fn run(
     } else {
         allowance
     };
-    let course = perform(term, grant, work, state, &term[..0]);
+    let course = perform(term, grant, work, state, book);
     settle(course, work, caller, desk)
+}
+
+// A run of document 01, for one of the callers of the desk. An empty slice holds the empty book, so an empty part of the words is lent for it.
+pub fn run(
+    term: &[u16],
+    budget: u32,
+    work: &mut [u16],
+    state: &mut [u16],
+    caller: u32,
+    desk: Desk,
+) -> Outcome
+    ensures outcome { λ r. ⌜ ran-of r (now (work .exit)) (now (state .exit)) ≡ run (now (term .entry)) budget caller (desk .allowances) (now (work .entry)) (now (state .entry)) ⌝ }
+    ensures safety { λ r. ⌜ SafeRun no-book no-book (now (term .entry)) budget caller (desk .allowances) (now (work .entry)) (now (state .entry)) (ran-of r (now (work .exit)) (now (state .exit))) ⌝ }
+{
+    run_over(&term[..0], true, term, budget, work, state, caller, desk)
+}
+
+// A run over the book that the slice counts as (document 02, 2.3).
+pub fn run_in(
+    book: &[u16],
+    term: &[u16],
+    budget: u32,
+    work: &mut [u16],
+    state: &mut [u16],
+    caller: u32,
+    desk: Desk,
+) -> Outcome
+    ensures outcome { λ r. ⌜ ran-of r (now (work .exit)) (now (state .exit)) ≡ run-in (now (book .entry)) (now (term .entry)) budget caller (desk .allowances) (now (work .entry)) (now (state .entry)) ⌝ }
+    ensures safety { λ r. ⌜ ((K : List ℕ) → GrownSlice K → AddedTo K (now (book .entry)) → SafeRun (lent-in K) (lent-in (now (book .entry))) (now (term .entry)) budget caller (desk .allowances) (now (work .entry)) (now (state .entry)) (ran-of r (now (work .exit)) (now (state .exit)))) ⌝ }
+{
+    run_over(
+        book::counted(book),
+        66000 <= book.len(),
+        term,
+        budget,
+        work,
+        state,
+        caller,
+        desk,
+    )
 }

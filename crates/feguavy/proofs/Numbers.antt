@@ -8,11 +8,12 @@ use Rattle.calculus.specs.Kinds.{counts}
 use Rattle.calculus.specs.Run.{End}
 use Rattle.calculus.specs.Outcomes.{Stop}
 use Rattle.calculus.specs.Outcomes as calculus
+use Rattle.book.specs.Calls as calls
 use Rattle.calculus.proofs.NumberInjective.{number-injective, number-not-zero, end-number-injective}
 use Rattle.feguavy.specs.declared.CheckedNumbers.{CheckedNumbers}
 use Rattle.feguavy.specs.declared.RanNumbers.{RanNumbers}
 use Rattle.feguavy.specs.declared.FoundNumbers.{FoundNumbers}
-use Rattle.feguavy.specs.Numbers.{checked-numbers, Numbered-check, ran-numbers, Numbered-run, found-numbers}
+use Rattle.feguavy.specs.Numbers.{checked-numbers, Numbered-check, Numbered-add, ran-numbers, Numbered-run, found-numbers}
 
 pub checked-numbers-injective : (a b : Answer ℕ) → checked-numbers a ≡ checked-numbers b → a ≡ b
 unfolding checked-numbers
@@ -44,6 +45,16 @@ numbered-check-one {c} {d} x y =
     (λ a (s : List ℕ × List ℕ). record { answer = a; work = s .0; output = s .1 })
     (checked-numbers-injective (c .answer) (d .answer) (sym (x .numbers) ∙ y .numbers))
     (ap₂ (λ w o. (w, o)) (sym (x .work) ∙ y .work) (sym (x .output) ∙ y .output))
+
+pub numbered-add-one : {c d : calls.Added} {r : CheckedNumbers} {K W O : List ℕ}
+    → Numbered-add c r K W O
+    → Numbered-add d r K W O
+    → c ≡ d
+numbered-add-one {c} {d} x y =
+    ap₂
+    (λ a (s : List ℕ × List ℕ × List ℕ). record { answer = a; book = s .0; work = s .1; output = s .2 })
+    (checked-numbers-injective (c .answer) (d .answer) (sym (x .numbers) ∙ y .numbers))
+    (ap₂ (λ k (s : List ℕ × List ℕ). (k, s .0, s .1)) (sym (x .book) ∙ y .book) (ap₂ (λ w o. (w, o)) (sym (x .work) ∙ y .work) (sym (x .output) ∙ y .output)))
 
 pub numbered-run-one : {c d : calculus.Ran} {r : RanNumbers} {W S : List ℕ} → Numbered-run c r W S → Numbered-run d r W S → c ≡ d
 numbered-run-one {c} {d} x y =

@@ -14,7 +14,7 @@ use mir.Val.{hasKey}
 use types.Run.{OneOf, miss}
 use Rattle.calculus.specs.Term.{Term, var, star, app, lam, pi, castup, castdown, mu, name, size}
 use Rattle.calculus.specs.Answer.{Answer}
-use Rattle.calculus.specs.Words.{emit, Scoped, Named, deepest}
+use Rattle.calculus.specs.Words.{emit, Scoped, Named, deepest, most}
 use Rattle.calculus.specs.Meaning as calculus
 use Rattle.calculus.specs.Meaning.{meaning, a-star, a-castdown, an-app, a-castup, a-lam, a-pi, a-mu, a-variable, a-name, nothing}
 use Rattle.calculus.specs.Rules.{Context}
@@ -31,7 +31,6 @@ use Rattle.inference.proofs.Rooms.{own-scope, deeper-scoped}
 use Rattle.inference.proofs.Types.{type-scoped, type-named}
 use Rattle.inference.proofs.Passing.{Part}
 use Rattle.book.specs.declared.Reader.{Reader}
-use Rattle.calculus.specs.Book.{most}
 use Rattle.calculus.proofs.Scoping.{named-more}
 
 -- A term with the node that is meant.

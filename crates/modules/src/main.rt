@@ -326,7 +326,7 @@ fn main() {
         return;
     }
     let mut input = io::large_buffer();
-    let mut out = io::large_buffer();
+    let mut out = [0u8; 1048576];
     let mut path = io::buffer();
     let mut work = [0u16; 1048576];
     serve(request, &mut input, &mut path, &mut work, &mut out);

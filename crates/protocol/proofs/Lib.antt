@@ -1,4 +1,5 @@
 -- The laws of this crate that its proofs use, and its examples.
+pub mod Booking
 pub mod Examples
 pub mod Feeding
 pub mod Fields
@@ -7,3 +8,4 @@ pub mod Lining
 pub mod Replying
 pub mod Requesting
 pub mod Serving
+pub mod Showing

@@ -3,59 +3,69 @@
 use Prim.Native.Nat.{ℕ}
 use mathlib.Core.Bool.{Bool, false}
 use mathlib.Core.List.{List, _++_}
-use mathlib.Core.Path.{_≡_, refl, sym, ap, _∙_}
+use mathlib.Core.Path.{_≡_, refl, ap, _∙_}
 use lib.ListN.{take}
 use borrow.Author.Tests.{eq-eqb, ne-eqb}
 use Rattle.calculus.specs.Answer.{Answer, ok, refused, number}
 use Rattle.calculus.specs.Outcomes.{Checked, Desk, allowance-of, Stop, Ran}
 use Rattle.calculus.proofs.NumberInjective.{number-not-zero}
 use Rattle.term.specs.Walk.{span}
-use Rattle.feguavy.specs.Numbers.{checked-numbers, Numbered-check, ran-numbers, Numbered-run}
+use Rattle.book.specs.Calls.{Added}
+use Rattle.feguavy.specs.Numbers.{checked-numbers, Numbered-check, Numbered-add, ran-numbers, Numbered-run}
 use Rattle.feguavy.specs.declared.CheckedNumbers.{CheckedNumbers}
 use Rattle.feguavy.specs.declared.RanNumbers.{RanNumbers}
 use Rattle.text.specs.Appending.{Appends}
 use Rattle.text.specs.Texts.{ascii, spaced}
 use Rattle.text.proofs.Appended.{both}
 use Rattle.text.proofs.Lists.{spaced-append}
-use Rattle.protocol.specs.Answers.{refusal-line, typed-line, checked-line, ended-line, ran-line, end-line, numbers-line, Replies}
+use Rattle.protocol.specs.Answers.{refusal-line, typed-line, checked-line, checked-numbers-line, ended-line, ran-line, end-line, numbers-line, Replies}
+use Rattle.protocol.specs.Books.{Books}
 use Rattle.protocol.specs.Desks.{Serves}
 
--- A check.
-untyped-text : (a : Answer ℕ) (O : List ℕ) (n : CheckedNumbers)
-    → n ≡ checked-numbers a
-    → (n .answer ≡ 0 → ⊥)
-    → refusal-line (n .answer) (n .place) ≡ typed-line a O
-unfolding checked-numbers typed-line
-untyped-text (ok k) O n e some = absurd (some (ap (λ x. x .answer) e))
-untyped-text (refused r p) O n e some = ap (λ (x : CheckedNumbers). refusal-line (x .answer) (x .place)) e
-
-typed-text : (a : Answer ℕ) (O : List ℕ) (n : CheckedNumbers)
-    → n ≡ checked-numbers a
-    → n .answer ≡ 0
-    → ascii "typed |" ++ spaced (take (n .length) O) ≡ typed-line a O
-unfolding checked-numbers typed-line
-typed-text (ok k) O n e none = ap (λ (x : CheckedNumbers). ascii "typed |" ++ spaced (take (x .length) O)) e
-typed-text (refused r p) O n e none = absurd (number-not-zero r (sym (ap (λ x. x .answer) e) ∙ none))
-
-module _ {c : Checked} (n : CheckedNumbers) {W O out after : List ℕ} {at r : ℕ} (h : Numbered-check c n W O) where
-  check-replies : {bs : List ℕ}
-      → bs ≡ typed-line (c .answer) O
-      → Appends bs out at r after
-      → Replies (record { text = checked-line c; work = c .work }) W out at r after
-  check-replies e d = record { text = rw (e ∙ ap (typed-line (c .answer)) (h .output)) at d; work = h .work }
-
-  pub refused-check : (n .answer ≡ 0 → ⊥)
+-- The line of a check or of an adding, from its numbers.
+module _ (n : CheckedNumbers) (O : List ℕ) {out after : List ℕ} {at r : ℕ} where
+  pub untyped-text : (n .answer ≡ 0 → ⊥)
       → Appends (refusal-line (n .answer) (n .place)) out at r after
-      → Replies (record { text = checked-line c; work = c .work }) W out at r after
-  refused-check some d = check-replies (untyped-text (c .answer) O n (h .numbers) some) d
+      → Appends (checked-numbers-line n O) out at r after
+  unfolding checked-numbers-line
+  untyped-text some d = rw (ne-eqb (n .answer) 0 some) d
 
-  pub typed-check : {ws mid : List ℕ} {next : ℕ}
+  pub typed-text : {ws mid : List ℕ} {next : ℕ}
       → n .answer ≡ 0
       → ws ≡ take (n .length) O
       → Appends (ascii "typed |") out at next mid
       → Appends (spaced ws) mid next r after
-      → Replies (record { text = checked-line c; work = c .work }) W out at r after
-  typed-check none e d d′ = check-replies (typed-text (c .answer) O n (h .numbers) none) (both d (rw e at d′))
+      → Appends (checked-numbers-line n O) out at r after
+  unfolding checked-numbers-line
+  typed-text none e d d′ = rw (eq-eqb (n .answer) 0 none) (both d (rw e at d′))
+
+-- It is the line of the outcome that has these numbers.
+answered-line : (a : Answer ℕ) (O : List ℕ) → checked-numbers-line (checked-numbers a) O ≡ typed-line a O
+unfolding checked-numbers checked-numbers-line typed-line
+answered-line (ok n) O = refl
+answered-line (refused r p) O = rw (ne-eqb (number r) 0 (number-not-zero r)) refl
+
+answered-text : (a : Answer ℕ) {n : CheckedNumbers} {O O′ out after : List ℕ} {at r : ℕ}
+    → n ≡ checked-numbers a
+    → O ≡ O′
+    → Appends (checked-numbers-line n O) out at r after
+    → Appends (typed-line a O′) out at r after
+answered-text a {O′ = O′} e f d = rw (e, f, answered-line a O′) at d
+
+pub check-replies : {c : Checked} {n : CheckedNumbers} {W O out after : List ℕ} {at r : ℕ}
+    → Numbered-check c n W O
+    → Appends (checked-numbers-line n O) out at r after
+    → Replies (record { text = checked-line c; work = c .work }) W out at r after
+check-replies {c} h d = record { text = answered-text (c .answer) (h .numbers) (h .output) d; work = h .work }
+
+pub add-books : {c : Added} {n : CheckedNumbers} {K W O out after : List ℕ} {at r : ℕ}
+    → Numbered-add c n K W O
+    → Appends (checked-numbers-line n O) out at r after
+    → Books
+    (record { reply = record { text = typed-line (c .answer) (c .output); work = c .work }; book = c .book })
+    K W out at r after
+add-books {c} h d =
+    record { replies = record { text = answered-text (c .answer) (h .numbers) (h .output) d; work = h .work }; book = h .book }
 
 -- Numbers behind numbers.
 pub spaced-both : (vs ws : List ℕ) {out mid after : List ℕ} {at next end : ℕ}

@@ -1,6 +1,6 @@
 -- Which line answers a request: each test of the code decides a test of `asks` or of `reply`.
 use Prim.Native.Nat.{ℕ}
-use mathlib.Core.Bool.{Bool, true, false, not, _||_}
+use mathlib.Core.Bool.{Bool, true, false, not, _&&_, _||_}
 use mathlib.Core.List.{List}
 use mathlib.Core.Path.{_≡_, refl, sym}
 use lib.Dec.{eqb}
@@ -53,6 +53,13 @@ first-test x y e = rw e refl
 
 pub second-test : (x y : Bool) → x ≡ false → y ≡ x || y
 second-test x y e = rw e refl
+
+-- Two tests of which both are asked for.
+pub fails-first : (x y : Bool) → x ≡ false → x ≡ x && y
+fails-first x y e = rw e refl
+
+pub then-second : (x y : Bool) → x ≡ true → y ≡ x && y
+then-second x y e = rw e refl
 
 -- Only the words that are kept count.
 pub kept-alone : (q : Request) (ws us W : List ℕ) → take (q .count) ws ≡ take (q .count) us → reply q ws W ≡ reply q us W

@@ -11,6 +11,7 @@ use Rattle.calculus.specs.Kinds.{Counts, counts}
 use Rattle.calculus.specs.Run.{end-number}
 use Rattle.calculus.specs.Outcomes.{Checked, check, alone, allowance-of, Stop, Ran, run, part}
 use Rattle.term.specs.Walk.{span}
+use Rattle.feguavy.specs.declared.CheckedNumbers.{CheckedNumbers}
 use Rattle.feguavy.specs.declared.RanNumbers.{RanNumbers}
 use Rattle.text.specs.Appending.{Appends}
 use Rattle.text.specs.Texts.{ascii, spaced}
@@ -29,6 +30,11 @@ typed-line (refused r p) O = refusal-line (number r) p
 
 abbrev pub checked-line : Checked → List ℕ
 checked-line c = typed-line (c .answer) (c .output)
+
+-- The same from the numbers of the export and its output slice.
+unfoldable pub checked-numbers-line : CheckedNumbers → List ℕ → List ℕ
+checked-numbers-line n O =
+    cond (eqb (n .answer) 0) (ascii "typed |" ++ spaced (take (n .length) O)) (refusal-line (n .answer) (n .place))
 
 -- The counts `BETA MU CANCEL`, where they are asked for.
 abbrev pub by-kind : Bool → Counts → List ℕ

@@ -6,7 +6,7 @@ use mathlib.Core.Path.{_≡_}
 use lib.ListN.{take}
 use Rattle.calculus.specs.Outcomes.{Desk, grant, run}
 use Rattle.text.specs.Texts.{ascii, spaced}
-use Rattle.protocol.specs.Answers.{Reply, lent, ran-line, reply, ended-by-feed, Replies}
+use Rattle.protocol.specs.Answers.{Reply, lent, ran-line, reply, Replies}
 use Rattle.protocol.specs.Forms.{asks-desk-new, asks-desk-run, asks-desk-show, granted}
 use Rattle.protocol.specs.Requests.{last, before-last}
 use Rattle.protocol.specs.declared.desk.Served.{Served}
@@ -34,9 +34,6 @@ served q desk ws W =
 -- The steps granted to the run that a request asks for, 0 where it asks for none.
 unfoldable pub granted-at : Request → Desk → ℕ
 granted-at q desk = cond (asks-desk-run q) (grant (last q) (before-last q) desk) (granted q)
-
-abbrev pub served-line : Serving → Serving
-served-line a = record { reply = ended-by-feed (a .reply); desk = a .desk }
 
 -- `Serves a W′ out at r out′`: the reply is appended to `out`, and the desk is the one after it.
 pub record Serves (a : Serving) (W′ out : List ℕ) (at : ℕ) (r : Served) (out′ : List ℕ) : Type 0 where

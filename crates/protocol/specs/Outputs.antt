@@ -31,7 +31,7 @@ pub data Flushed (o : Output) (out : List ℕ) : Output → Type 0 where
 
 -- `Roomy o out r`: there is room for the longest line, or the output is flushed.
 pub data Roomy (o : Output) (out : List ℕ) : Output → Type 0 where
-  room : o .filled < length out → 16384 ≤ length out - o .filled → Roomy o out o
+  room : o .filled < length out → 344064 ≤ length out - o .filled → Roomy o out o
   flushed : {r : Output} → Flushed o out r → Roomy o out r
 
 -- `Ready o g out r`: before a run that is granted 100,000 steps or more the output is flushed.

@@ -86,26 +86,51 @@ unread =
       wrong = false;
     }
 
--- A letter of the topic or of the verb, which have at most five.
+-- The topics `desk` and `book`, their letters as one number in base 256. A line without one has the topic 0.
+abbrev pub desk-topic : ℕ
+desk-topic = 1684370283
+
+abbrev pub book-topic : ℕ
+book-topic = 1651470187
+
+unfoldable pub is-topic : ℕ → Bool
+is-topic letters = eqb letters desk-topic || eqb letters book-topic
+
+-- The verb `add` of the book, whose second number is a mark; and the marks `open` and `closed`.
+abbrev pub add-verb : ℕ
+add-verb = 6382692
+
+abbrev pub open-mark : ℕ
+open-mark = 1869636974
+
+abbrev pub closed-mark : ℕ
+closed-mark = 109317377451364
+
+-- Among the numbers, where no digit of one is read, and the next one is a mark.
+unfoldable pub awaits-mark : Request → Bool
+awaits-mark q =
+    eqb (q .phase) 1 && eqb (q .topic) book-topic && eqb (q .verb) add-verb && eqb (q .numbers) 1 && eqb (q .width) 0
+
+-- A letter of the topic, of the verb or of a mark, which have at most six; among the numbers and the words there is none.
+unfoldable pub spelled : Request → ℕ → Request
+spelled q b =
+    cond (eqb (q .phase) 1 || eqb (q .phase) 2) (refused q)
+    (cond (ltb 5 (q .width)) (refused q) (reading q (q .field % 1099511627776 * 256 + b) (q .width + 1)))
+
+-- Phase 3 is within the letters of a mark.
 unfoldable pub letter : Request → ℕ → Request
-letter q b =
-    cond (eqb (q .phase) 0)
-    (cond (ltb 4 (q .width)) (refused q) (reading q (q .field % 4294967296 * 256 + b) (q .width + 1)))
-    (refused q)
+letter q b = spelled (cond (awaits-mark q) (known q 3 (q .topic) (q .verb) (q .values) (q .numbers)) q) b
 
 -- A digit of a number or a word; a field of more than 32 bits is too large for either.
 unfoldable pub digit : Request → ℕ → Request
 digit q d =
-    cond (eqb (q .phase) 0) (refused q) (cond (ltb 4294967295 (q .field)) (refused q) (reading q (q .field * 10 + d) 1))
-
--- The topic `desk`, its letters as one number in base 256. A line without one has the topic 0.
-abbrev pub desk-topic : ℕ
-desk-topic = 1684370283
+    cond (eqb (q .phase) 0 || eqb (q .phase) 3) (refused q)
+    (cond (ltb 4294967295 (q .field)) (refused q) (reading q (q .field * 10 + d) 1))
 
 -- The letters in front of the numbers: a topic, where there is none yet, or the verb.
 unfoldable pub named : Request → ℕ → Request
 named q letters =
-    cond (eqb letters desk-topic && eqb (q .topic) 0) (known q 0 letters (q .verb) (q .values) (q .numbers))
+    cond (is-topic letters && eqb (q .topic) 0) (known q 0 letters (q .verb) (q .values) (q .numbers))
     (known q 1 (q .topic) letters (q .values) (q .numbers))
 
 -- One more number behind the last seven of those before it.
@@ -119,12 +144,21 @@ number q v =
     cond (ltb 4294967295 v) (refused q)
     (cond (ltb 7 (q .numbers)) (refused q) (known q (q .phase) (q .topic) (q .verb) (pushed (q .values) v) (q .numbers + 1)))
 
--- The last number, and the one before it.
+-- The letters of a mark, which is the number 0 or 1: no other letters stand among the numbers.
+unfoldable pub marked : Request → ℕ → Request
+marked q letters =
+    let rest = known q 1 (q .topic) (q .verb) (q .values) (q .numbers) in
+    cond (eqb letters open-mark) (number rest 0) (cond (eqb letters closed-mark) (number rest 1) (refused rest))
+
+-- The last number, the one before it, and the one before that.
 abbrev pub last : Request → ℕ
 last q = getD (q .values) 7 0
 
 abbrev pub before-last : Request → ℕ
 before-last q = getD (q .values) 6 0
+
+abbrev pub third-last : Request → ℕ
+third-last q = getD (q .values) 5 0
 
 -- What is known of a line, with the words kept.
 pub record Line : Type 0 where
@@ -140,14 +174,15 @@ word q v ws =
     cond (ltb 65535 v) (line-of (refused q) ws)
     (cond (ltb (q .count) (length ws)) (line-of (keeping q (q .count + 1)) (set ws (q .count) v)) (line-of q ws))
 
--- The end of a field, where one was begun: the topic or the verb, a number, or a word. The end of the line is the end of its last
+-- The end of a field, where one was begun: the topic or the verb, a number, a mark, or a word. The end of the line is the end of its last
 -- field.
 unfoldable pub field-end : Request → List ℕ → Line
 field-end q ws =
     let rest = reading q 0 0 in
     cond (eqb (q .width) 0) (line-of q ws)
     (cond (eqb (q .phase) 0) (line-of (named rest (q .field)) ws)
-    (cond (eqb (q .phase) 1) (line-of (number rest (q .field)) ws) (word rest (q .field) ws)))
+    (cond (eqb (q .phase) 1) (line-of (number rest (q .field)) ws)
+    (cond (eqb (q .phase) 3) (line-of (marked rest (q .field)) ws) (word rest (q .field) ws))))
 
 -- The bar between the numbers and the words.
 unfoldable pub barred : Line → Line

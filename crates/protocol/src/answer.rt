@@ -3,6 +3,7 @@ use crate::request::BARRED;
 use crate::request::NONE;
 use crate::request::Request;
 use evaluation::Desk;
+use feguavy::CheckedNumbers;
 use feguavy::RanNumbers;
 use feguavy::feguavy_check;
 use feguavy::feguavy_run;
@@ -18,6 +19,7 @@ ghost use Rattle.text.specs.Texts.{ascii, spaced};
 ghost use Rattle.protocol.specs.Answers.{
   by-kind,
   check-reply,
+  checked-numbers-line,
   end-line,
   ended-by-feed,
   numbers-line,
@@ -29,11 +31,11 @@ ghost use Rattle.protocol.specs.Answers.{
 ghost use Rattle.protocol.specs.Forms.{asks, granted, is-request, is-run};
 
 // The verbs, their letters as one number.
-const CHECK: u64 = 426953237355;
+pub const CHECK: u64 = 426953237355;
 
 pub const RUN: u64 = 7501166;
 
-const KINDS: u64 = 461330343027;
+pub const KINDS: u64 = 461330343027;
 
 const PART: u64 = 1885434484;
 
@@ -45,18 +47,25 @@ pub fn refusal(answer: u32, place: u32, out: &mut [u8], at: usize) -> usize
     text::numbers(&[answer, place], out, named)
 }
 
-// `typed | WORDS`, or the refusal.
+// `typed | WORDS`, or the refusal: from the numbers of a check and its output slice.
+pub fn checked_line(checked: CheckedNumbers, output: &[u16], out: &mut [u8], at: usize) -> usize
+    ensures { λ r. ⌜ Appends (checked-numbers-line checked (now (output .entry))) (now (out .entry)) at r (now (out .exit)) ⌝ }
+{
+    if checked.answer != 0 {
+        return refusal(checked.answer, checked.place, out, at);
+    }
+    let named = text::bytes(b"typed |", out, at);
+    text::spaced(front(output, checked.length as usize), out, named)
+}
+
+// A check.
 fn checked(term: &[u16], limit: u32, work: &mut [u16], out: &mut [u8], at: usize) -> usize
     ensures { λ r. ⌜ Replies (check-reply (now (term .entry)) limit (now (work .entry)))
         (now (work .exit)) (now (out .entry)) at r (now (out .exit)) ⌝ }
 {
     let mut result = [0u16; 1024];
     let answer = feguavy_check(term, limit, work, &mut result);
-    if answer.answer != 0 {
-        return refusal(answer.answer, answer.place, out, at);
-    }
-    let named = text::bytes(b"typed |", out, at);
-    text::spaced(front(&result, answer.length as usize), out, named)
+    checked_line(answer, &result, out, at)
 }
 
 // ` BETA MU CANCEL`, where they are asked for.

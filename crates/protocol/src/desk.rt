@@ -14,12 +14,12 @@ ghost use mathlib.Core.Path.{_≡_};
 ghost use mathlib.Core.List.{_++_};
 ghost use Rattle.text.specs.Appending.{Appends};
 ghost use Rattle.text.specs.Texts.{ascii, spaced};
-ghost use Rattle.protocol.specs.Desks.{granted-at, run-for, served, served-line, Serves};
+ghost use Rattle.protocol.specs.Desks.{granted-at, run-for, served, Serves};
 
 // The verbs, their letters as one number.
-const NEW: u64 = 7234935;
+pub const NEW: u64 = 7234935;
 
-const SHOW: u64 = 1936224119;
+pub const SHOW: u64 = 1936224119;
 
 // Where an answer ends, and the desk after it.
 pub struct Served {
@@ -75,7 +75,7 @@ pub fn granted(request: Request, desk: Desk) -> u32
 }
 
 // The answer to a request about the desk; any other is answered by itself.
-fn line(
+pub fn line(
     request: Request,
     desk: Desk,
     words: &[u16],
@@ -107,25 +107,5 @@ fn line(
     Served {
         end: answer::line(request, words, work, out, at),
         desk,
-    }
-}
-
-// Appends the answer and a line feed.
-pub fn answer(
-    request: Request,
-    desk: Desk,
-    words: &[u16],
-    work: &mut [u16],
-    out: &mut [u8],
-    at: usize,
-) -> Served
-    ensures { λ r. ⌜ Serves (served-line (served request (desk .allowances) (now (words .entry)) (now (work .entry))))
-        (now (work .exit)) (now (out .entry)) at r (now (out .exit)) ⌝ }
-{
-    let told = line(request, desk, words, work, out, at);
-    let after = told.desk;
-    Served {
-        end: text::byte(b'\n', out, told.end),
-        desk: after,
     }
 }

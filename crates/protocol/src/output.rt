@@ -8,8 +8,8 @@ ghost use Rattle.text.specs.Appending.{Appends};
 ghost use Rattle.text.specs.Texts.{ascii, decimal};
 ghost use Rattle.protocol.specs.Outputs.{one-more, Flushed, Ready, Roomy};
 
-// Room for the longest line: a thousand words, and a path.
-const LONGEST: usize = 16384;
+// Room for the longest line: that of a book of 32 definitions, each of two terms of 1,024 words.
+const LONGEST: usize = 344064;
 
 // The steps of a run that may take long.
 const LONG: u32 = 100000;

@@ -6,9 +6,12 @@ ghost use lib.ListN.{drop};
 ghost use Rattle.protocol.specs.Requests.{
   unread,
   refused,
+  awaits-mark,
   letter,
+  spelled,
   digit,
   named,
+  marked,
   number,
   keeping,
   line-of,
@@ -17,15 +20,25 @@ ghost use Rattle.protocol.specs.Requests.{
   barred,
   last,
   before-last,
+  third-last,
   fed,
   fed-line,
   line-length,
 };
 
-// The topics, their letters as one number: none, and `desk`.
+// The topics, their letters as one number: none, `desk` and `book`.
 pub const NONE: u64 = 0;
 
 pub const DESK: u64 = 1684370283;
+
+pub const BOOK: u64 = 1651470187;
+
+// The verb whose second number is a mark, and the marks.
+pub const ADD: u64 = 6382692;
+
+const OPEN: u64 = 1869636974;
+
+const CLOSED: u64 = 109317377451364;
 
 // The phases in which a line may end: without words, and behind the bar.
 pub const BARE: u32 = 1;
@@ -34,7 +47,7 @@ pub const BARRED: u32 = 2;
 
 // What is known of a line so far.
 pub struct Request {
-    // 0 before the verb's end, 1 among the numbers, 2 behind the bar
+    // 0 before the verb's end, 1 among the numbers, 2 behind the bar, 3 within the letters of a mark
     pub phase: u32,
     // what the request is about, where the line begins with that, else 0; and the verb: the letters of each as one number
     pub topic: u64,
@@ -90,7 +103,7 @@ impl Request {
         self.any
     }
 
-    // The last number, and the one before it.
+    // The last number, the one before it, and the one before that.
     pub fn last(self) -> u32
         ensures { λ r. ⌜ r ≡ last self ⌝ }
     {
@@ -103,6 +116,13 @@ impl Request {
     {
         let values = self.values;
         values[6]
+    }
+
+    pub fn third_last(self) -> u32
+        ensures { λ r. ⌜ r ≡ third-last self ⌝ }
+    {
+        let values = self.values;
+        values[5]
     }
 
     // With the bytes from `from` on, up to the line feed.
@@ -145,17 +165,46 @@ impl Request {
         self
     }
 
-    // One letter of the topic or of the verb, which have at most five: the four before it are a number of 32 bits.
+    // Whether a mark may begin here: it is the second number of `book add`.
+    fn awaits_mark(self) -> bool
+        ensures { λ r. ⌜ r ≡ awaits-mark self ⌝ }
+    {
+        if self.phase != 1 {
+            return false;
+        }
+        if self.topic != BOOK {
+            return false;
+        }
+        if self.verb != ADD {
+            return false;
+        }
+        if self.numbers != 1 {
+            return false;
+        }
+        self.width == 0
+    }
+
+    // One letter: of the topic, of the verb, or of a mark.
     fn letter(mut self, byte: u8) -> Self
         ensures { λ r. ⌜ r ≡ letter self byte ⌝ }
     {
-        if self.phase != 0 {
+        if self.awaits_mark() {
+            self.phase = 3;
+        }
+        self.spelled(byte)
+    }
+
+    // One letter of those that have at most six: the five before it are a number of 40 bits.
+    fn spelled(mut self, byte: u8) -> Self
+        ensures { λ r. ⌜ r ≡ spelled self byte ⌝ }
+    {
+        if self.phase == 1 || self.phase == 2 {
             return self.refused();
         }
-        if 4 < self.width {
+        if 5 < self.width {
             return self.refused();
         }
-        self.field = self.field % 4294967296 * 256 + byte as u64;
+        self.field = self.field % 1099511627776 * 256 + byte as u64;
         self.width += 1;
         self
     }
@@ -164,7 +213,7 @@ impl Request {
     fn digit(mut self, value: u8) -> Self
         ensures { λ r. ⌜ r ≡ digit self value ⌝ }
     {
-        if self.phase == 0 {
+        if self.phase == 0 || self.phase == 3 {
             return self.refused();
         }
         if 4294967295 < self.field {
@@ -175,7 +224,7 @@ impl Request {
         self
     }
 
-    // The field is at its end: the topic or the verb, a number or a word. A line is at its end where its last field is.
+    // The field is at its end: the topic or the verb, a number, a word or a mark. A line is at its end where its last field is.
     pub fn field_ended(mut self, words: &mut [u16]) -> Self
         ensures { λ r. ⌜ line-of r (now (words .exit)) ≡ field-end self (now (words .entry)) ⌝ }
     {
@@ -191,6 +240,9 @@ impl Request {
         if self.phase == 1 {
             return self.number(field);
         }
+        if self.phase == 3 {
+            return self.marked(field);
+        }
         self.word(field, words)
     }
 
@@ -198,7 +250,7 @@ impl Request {
     fn named(mut self, letters: u64) -> Self
         ensures { λ r. ⌜ r ≡ named self letters ⌝ }
     {
-        if letters == DESK && self.topic == 0 {
+        if (letters == DESK || letters == BOOK) && self.topic == 0 {
             self.topic = letters;
             self.phase = 0;
             return self;
@@ -206,6 +258,20 @@ impl Request {
         self.verb = letters;
         self.phase = 1;
         self
+    }
+
+    // The letters of a mark, which is a number: 0 open, 1 closed.
+    fn marked(mut self, letters: u64) -> Self
+        ensures { λ r. ⌜ r ≡ marked self letters ⌝ }
+    {
+        self.phase = 1;
+        if letters == OPEN {
+            return self.number(0);
+        }
+        if letters == CLOSED {
+            return self.number(1);
+        }
+        self.refused()
     }
 
     // A number of 32 bits, of which a request has eight at most.

@@ -11,8 +11,8 @@ use lib.Dec.{eqb}
 use lib.ListN.{length, getD, drop, List·getD-map}
 use lib.Seq.{drop-cons}
 use Rattle.calculus.specs.Term.{Term, var, star, app, lam, pi, castup, castdown, mu, name, size}
-use Rattle.calculus.specs.Words.{Named, Worded}
-use Rattle.calculus.specs.Book.{View, most}
+use Rattle.calculus.specs.Words.{Named, Worded, most}
+use Rattle.calculus.specs.Book.{View}
 use Rattle.calculus.specs.Meaning.{Meaning, a-star, a-castdown, an-app, a-castup, a-lam, a-pi, a-mu, a-variable, a-name, nothing, meaning}
 use Rattle.calculus.proofs.Meanings.{word, Indexed, meaning-word}
 use Rattle.term.specs.Kept.{keep, word-at}

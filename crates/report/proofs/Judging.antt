@@ -51,26 +51,26 @@ found n m k = record { answer = 0; place = 0; length = n .length; end = m .end; 
 
 -- The verdict on a term, and how it is then judged.
 data Judges (ws : List ℕ) : Answer Term → Answer (Term × Ended) → Type 0 where
-  typed : {t τ : Term} → read ws ≡ ok t → Judges ws (ok τ) (ok (τ, run-of t))
+  typed : {t τ : Term} → read 0 ws ≡ ok t → Judges ws (ok τ) (ok (τ, run-of t))
   untyped : {r : Reason} {p : ℕ} → Judges ws (refused r p) (refused r p)
 
 judges-term : (ws : List ℕ) (t : Term) (x : Answer Term)
-    → read ws ≡ ok t
+    → read 0 ws ≡ ok t
     → Judges ws x (x >>= λ τ. ok (τ, run-of t))
 unfolding _>>=_
 judges-term ws t (ok τ) e = typed e
 judges-term ws t (refused r p) e = untyped
 
 judges-read : (ws : List ℕ) (x : Answer Term)
-    → read ws ≡ x
+    → read 0 ws ≡ x
     → Judges ws (x >>= type-of) (x >>= λ t. (type-of t >>= λ τ. ok (τ, run-of t)))
 unfolding _>>=_
 judges-read ws (ok t) e = judges-term ws t (type-of t) e
 judges-read ws (refused r p) e = untyped
 
-judges : (ws : List ℕ) → Judges ws (read ws >>= type-of) (judged ws)
+judges : (ws : List ℕ) → Judges ws (read 0 ws >>= type-of) (judged ws)
 unfolding judged
-judges ws = judges-read ws (read ws) refl
+judges ws = judges-read ws (read 0 ws) refl
 
 same-lines : {type type′ state state′ : List ℕ} {end end′ steps steps′ : ℕ}
     → type ≡ type′
@@ -85,7 +85,7 @@ same-lines a b c d = cc
 
 -- A call of a check with room enough.
 module _ (ws W O : List ℕ) (room : check-room limit ≤ length W) (space : limit ≤ length O) where
-  checks : check ws limit W O ≡ checked (check-room limit) W O (read ws >>= type-of)
+  checks : check ws limit W O ≡ checked (check-room limit) W O (read 0 ws >>= type-of)
   unfolding check-by verdict require _>>_ _>>=_
   checks = rw (le-leb (check-room limit) (length W) room, le-leb limit (length O) space) refl
 

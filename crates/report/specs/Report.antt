@@ -35,7 +35,7 @@ run-of t = run-from (step (bodies [])) (min budget allowance) t
 -- The type and the run of the term that a list of words is, or the first refusal. "A refused term isn't run."
 unfoldable pub judged : List ℕ → Answer (Term × Ended)
 judged ws = do
-  t ← read ws
+  t ← read 0 ws
   τ ← type-of t
   ok (τ, run-of t)
 

@@ -17,19 +17,19 @@ use Rattle.session.specs.declared.Next.{Next}
 use Rattle.session.specs.declared.Session.{Session}
 
 -- A request at its end is answered.
-pub answers-line : (s : Session) (ws W out : List ℕ) {q : Request} {us : List ℕ} {r : Place}
+pub answers-line : (s : Session) (K ws W out : List ℕ) {q : Request} {us : List ℕ} {r : Place}
     → line-of q us ≡ field-end (s .request) ws
-    → Answers (place (with-request s q) us W out) r
-    → Answers (line-end (place s ws W out)) r
+    → Answers (place (with-request s q) K us W out) r
+    → Answers (line-end (place s K ws W out)) r
 unfolding line-end
-answers-line s ws W out {r = r} e h = subst (λ (l : Line). Answers (place (with-request s (l .request)) (l .words) W out) r) e h
+answers-line s K ws W out {r = r} e h = subst (λ (l : Line). Answers (place (with-request s (l .request)) K (l .words) W out) r) e h
 
 -- What the bytes of a line leave.
-pub reads-line : (s : Session) (ws W out bs : List ℕ) {q : Request} {us : List ℕ}
+pub reads-line : (s : Session) (K ws W out bs : List ℕ) {q : Request} {us : List ℕ}
     → line-of q us ≡ fed-line (line-of (s .request) ws) bs
-    → place (with-request s q) us W out ≡ line-read bs (place s ws W out)
+    → place (with-request s q) K us W out ≡ line-read bs (place s K ws W out)
 unfolding line-read
-reads-line s ws W out bs e = ap (λ (l : Line). place (with-request s (l .request)) (l .words) W out) e
+reads-line s K ws W out bs e = ap (λ (l : Line). place (with-request s (l .request)) K (l .words) W out) e
 
 -- `Taken bs p at q`: `at` bytes are taken, up to the end of a line, and `q` is come to.
 pub record Taken (bs : List ℕ) (p : Place) (at : ℕ) (q : Place) : Type 0 where
@@ -79,14 +79,14 @@ module _ {bs : List ℕ} {p q : Place} {at : ℕ} (h : Taken bs p at q) where
               ap (λ k. drop k bs) same ∙ sym (drop-drop (suc (line-length (drop at bs))) at bs)
 
 -- A turn that took something is over where an answer could not be written.
-pub turns-on : {bs : List ℕ} {p : Place} {s : Session} {ws W out : List ℕ} {n : Next}
-    → TakesChunk bs p (place s ws W out)
+pub turns-on : {bs : List ℕ} {p : Place} {s : Session} {K ws W out : List ℕ} {n : Next}
+    → TakesChunk bs p (place s K ws W out)
     → n ≡ record { session = s; over = not (eqb (s .output .error) 0) }
-    → Turns p (n .over) (place (n .session) ws W out)
-turns-on {bs} {p} {s} {ws} {W} {out} t e =
-    subst (λ (n : Next). Turns p (n .over) (place (n .session) ws W out)) (sym e) (on (ℕ-discrete (s .output .error) 0))
+    → Turns p (n .over) (place (n .session) K ws W out)
+turns-on {bs} {p} {s} {K} {ws} {W} {out} t e =
+    subst (λ (n : Next). Turns p (n .over) (place (n .session) K ws W out)) (sym e) (on (ℕ-discrete (s .output .error) 0))
   where
-    on : Dec (s .output .error ≡ 0) → Turns p (not (eqb (s .output .error) 0)) (place s ws W out)
+    on : Dec (s .output .error ≡ 0) → Turns p (not (eqb (s .output .error) 0)) (place s K ws W out)
     on (yes h) = rw (eq-eqb (s .output .error) 0 h) (going-on bs t h)
     on (no h) = rw (ne-eqb (s .output .error) 0 h) (failed bs t h)
 

@@ -7,7 +7,7 @@ use lib.ListN.{length, drop}
 use Rattle.calculus.specs.Outcomes.{alone}
 use Rattle.evaluation.specs.declared.Desk.{Desk}
 use Rattle.protocol.specs.Answers.{reply, ended-by-feed}
-use Rattle.protocol.specs.Desks.{Serving, served, served-line, granted-at, Serves}
+use Rattle.protocol.specs.Books.{Keeping, kept, granted-with, Keeps}
 use Rattle.protocol.specs.Forms.{granted}
 use Rattle.protocol.specs.Outputs.{one-more, Flushed, Ready, Roomy}
 use Rattle.protocol.specs.Requests.{line-of, unread, field-end, fed-line, line-length}
@@ -31,53 +31,54 @@ with-request s q = record { request = q; output = s .output; desk = s .desk; kee
 abbrev pub with-output : Session → Output → Session
 with-output s o = record { request = s .request; output = o; desk = s .desk; keeps = s .keeps }
 
--- The steps granted to the run that the request asks for; and its answer, a line, with the desk after it: where the desk is kept, given
--- the one that the requests before it left, and else by itself.
+-- The steps granted to the run that the request asks for; and its answer, a line, with the desk and the book after it: where these
+-- are kept, given those that the requests before it left, and else by itself.
 unfoldable pub granted-in : Session → ℕ
-granted-in s = cond (s .keeps) (granted-at (s .request) (s .desk .allowances)) (granted (s .request))
+granted-in s = cond (s .keeps) (granted-with (s .request) (s .desk .allowances)) (granted (s .request))
 
-unfoldable pub answer-in : Session → List ℕ → List ℕ → Serving
-answer-in s ws W =
-    cond (s .keeps) (served-line (served (s .request) (s .desk .allowances) ws W))
-    (record { reply = ended-by-feed (reply (s .request) ws W); desk = s .desk .allowances })
+unfoldable pub answer-in : Session → List ℕ → List ℕ → List ℕ → Keeping
+answer-in s K ws W =
+    cond (s .keeps) (kept (s .request) (s .desk .allowances) K ws W)
+    (record { serving = record { reply = ended-by-feed (reply (s .request) ws W); desk = s .desk .allowances }; book = K })
 
--- A session with the words of the request being read, the working slice, and the answers that wait to be written.
+-- A session with the book's slice, the words of the request being read, the working slice, and the answers that wait to be written.
 pub record Place : Type 0 where
   pub session : Session
+  pub book : List ℕ
   pub words : List ℕ
   pub work : List ℕ
   pub out : List ℕ
 
-abbrev pub place : Session → List ℕ → List ℕ → List ℕ → Place
-place s ws W out = record { session = s; words = ws; work = W; out = out }
+abbrev pub place : Session → List ℕ → List ℕ → List ℕ → List ℕ → Place
+place s K ws W out = record { session = s; book = K; words = ws; work = W; out = out }
 
 -- The request is at its end.
 unfoldable pub line-end : Place → Place
 line-end p =
     let l = field-end (p .session .request) (p .words) in
-    place (with-request (p .session) (l .request)) (l .words) (p .work) (p .out)
+    place (with-request (p .session) (l .request)) (p .book) (l .words) (p .work) (p .out)
 
 -- The bytes up to the first line feed are read.
 unfoldable pub line-read : List ℕ → Place → Place
 line-read bs p =
     let l = fed-line (line-of (p .session .request) (p .words)) bs in
-    place (with-request (p .session) (l .request)) (l .words) (p .work) (p .out)
+    place (with-request (p .session) (l .request)) (p .book) (l .words) (p .work) (p .out)
 
 -- The output is written out.
 pub data Flushes (p : Place) : Place → Type 0 where
   flushes : {o : Output} → Flushed (p .session .output) (p .out) o
-      → Flushes p (place (with-output (p .session) o) (p .words) (p .work) (p .out))
+      → Flushes p (place (with-output (p .session) o) (p .book) (p .words) (p .work) (p .out))
 
 -- `Answers p q`: the request is answered, with the answers before it written out first where it may take long, and room made behind it
 -- for the next; or these cannot be written, and it is not.
 pub data Answers (p : Place) : Place → Type 0 where
   withheld : {o : Output} → Ready (p .session .output) (granted-in (p .session)) (p .out) o → (o .error ≡ 0 → ⊥)
-      → Answers p (place (with-output (p .session) o) (p .words) (p .work) (p .out))
-  answered : {o o′ : Output} {end : ℕ} {desk : Desk} {W out : List ℕ}
+      → Answers p (place (with-output (p .session) o) (p .book) (p .words) (p .work) (p .out))
+  answered : {o o′ : Output} {end : ℕ} {desk : Desk} {K W out : List ℕ}
       → Ready (p .session .output) (granted-in (p .session)) (p .out) o → o .error ≡ 0
-      → Serves (answer-in (p .session) (p .words) (p .work)) W (p .out) (o .filled) (record { end = end; desk = desk }) out
+      → Keeps (answer-in (p .session) (p .book) (p .words) (p .work)) K W (p .out) (o .filled) (record { end = end; desk = desk }) out
       → Roomy (one-more o end) out o′
-      → Answers p (place (record { request = unread; output = o′; desk = desk; keeps = p .session .keeps }) (p .words) W out)
+      → Answers p (place (record { request = unread; output = o′; desk = desk; keeps = p .session .keeps }) K (p .words) W out)
 
 -- `Takes bs p q`: the bytes are read line by line, and each line is answered; once an answer cannot be written, nothing more is read.
 pub data Takes : List ℕ → Place → Place → Type 0 where

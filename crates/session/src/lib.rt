@@ -1,16 +1,16 @@
-// Request lines from standard input to its end, and their answers: what `batch` and `serial` do. Where the desk is kept, a request
-// finds the one that those before it left; otherwise each is answered by itself.
+// Request lines from standard input to its end, and their answers: what `batch` and `serial` do. Where the desk and the book are kept, a
+// request finds those that the ones before it left; otherwise each is answered by itself.
 use evaluation::Desk;
 use libc::STDIN_FILENO;
 use protocol::answer;
-use protocol::desk;
+use protocol::books;
 use protocol::desk::Served;
 use protocol::output::Output;
 use protocol::request::Request;
 ghost use mathlib.Core.Bool.{not};
 ghost use mathlib.Core.Path.{_≡_};
 ghost use lib.Dec.{eqb};
-ghost use Rattle.protocol.specs.Desks.{Serves};
+ghost use Rattle.protocol.specs.Books.{Keeps};
 ghost use Rattle.session.specs.Sessions.{
   answer-in,
   Answers,
@@ -26,7 +26,7 @@ ghost use Rattle.session.specs.Sessions.{
 };
 ghost use Rattle.session.specs.declared.Session.{Session};
 
-// The request being read, the answers to those before it, the desk that they left, and whether it is kept.
+// The request being read, the answers to those before it, the desk that they left, and whether it and the book are kept.
 pub struct Session {
     pub request: Request,
     pub output: Output,
@@ -53,20 +53,27 @@ impl Session {
     {
         let request = self.request;
         if self.keeps {
-            return desk::granted(request, self.desk);
+            return books::granted(request, self.desk);
         }
         answer::granted(request)
     }
 
     // The answer to the request, and the desk after it.
-    fn replied(self, words: &[u16], work: &mut [u16], out: &mut [u8], at: usize) -> Served
-        ensures { λ r. ⌜ Serves (answer-in self (now (words .entry)) (now (work .entry)))
-            (now (work .exit)) (now (out .entry)) at r (now (out .exit)) ⌝ }
+    fn replied(
+        self,
+        book: &mut [u16],
+        words: &[u16],
+        work: &mut [u16],
+        out: &mut [u8],
+        at: usize,
+    ) -> Served
+        ensures { λ r. ⌜ Keeps (answer-in self (now (book .entry)) (now (words .entry)) (now (work .entry)))
+            (now (book .exit)) (now (work .exit)) (now (out .entry)) at r (now (out .exit)) ⌝ }
     {
         let request = self.request;
         let desk = self.desk;
         if self.keeps {
-            return desk::answer(request, desk, words, work, out, at);
+            return books::answer(request, desk, book, words, work, out, at);
         }
         Served {
             end: answer::answer(request, words, work, out, at),
@@ -75,16 +82,16 @@ impl Session {
     }
 
     // With the request answered, unless the answers before it cannot be written.
-    fn answered(mut self, words: &[u16], work: &mut [u16], out: &mut [u8]) -> Self
-        ensures { λ r. ⌜ Answers (place self (now (words .entry)) (now (work .entry)) (now (out .entry)))
-            (place r (now (words .entry)) (now (work .exit)) (now (out .exit))) ⌝ }
+    fn answered(mut self, book: &mut [u16], words: &[u16], work: &mut [u16], out: &mut [u8]) -> Self
+        ensures { λ r. ⌜ Answers (place self (now (book .entry)) (now (words .entry)) (now (work .entry)) (now (out .entry)))
+            (place r (now (book .exit)) (now (words .entry)) (now (work .exit)) (now (out .exit))) ⌝ }
     {
         let ready = self.output.ready_for(self.granted(), out);
         if ready.error != 0 {
             self.output = ready;
             return self;
         }
-        let told = self.replied(words, work, out, ready.filled);
+        let told = self.replied(book, words, work, out, ready.filled);
         let desk = told.desk;
         self.output = ready.answered(told.end).with_room(out);
         self.desk = desk;
@@ -93,18 +100,31 @@ impl Session {
     }
 
     // At the end of a line: the request is answered.
-    fn line_ended(mut self, words: &mut [u16], work: &mut [u16], out: &mut [u8]) -> Self
-        ensures { λ r. ⌜ Answers (line-end (place self (now (words .entry)) (now (work .entry)) (now (out .entry))))
-            (place r (now (words .exit)) (now (work .exit)) (now (out .exit))) ⌝ }
+    fn line_ended(
+        mut self,
+        book: &mut [u16],
+        words: &mut [u16],
+        work: &mut [u16],
+        out: &mut [u8],
+    ) -> Self
+        ensures { λ r. ⌜ Answers (line-end (place self (now (book .entry)) (now (words .entry)) (now (work .entry)) (now (out .entry))))
+            (place r (now (book .exit)) (now (words .exit)) (now (work .exit)) (now (out .exit))) ⌝ }
     {
         self.request = self.request.field_ended(words);
-        self.answered(words, work, out)
+        self.answered(book, words, work, out)
     }
 
     // With the bytes line by line, and no more once an answer cannot be written.
-    fn take_all(self, input: &[u8], words: &mut [u16], work: &mut [u16], out: &mut [u8]) -> Self
-        ensures { λ r. ⌜ Takes (now (input .entry)) (place self (now (words .entry)) (now (work .entry)) (now (out .entry)))
-            (place r (now (words .exit)) (now (work .exit)) (now (out .exit))) ⌝ }
+    fn take_all(
+        self,
+        input: &[u8],
+        book: &mut [u16],
+        words: &mut [u16],
+        work: &mut [u16],
+        out: &mut [u8],
+    ) -> Self
+        ensures { λ r. ⌜ Takes (now (input .entry)) (place self (now (book .entry)) (now (words .entry)) (now (work .entry)) (now (out .entry)))
+            (place r (now (book .exit)) (now (words .exit)) (now (work .exit)) (now (out .exit))) ⌝ }
     {
         let mut now = self;
         let mut at = 0;
@@ -117,7 +137,7 @@ impl Session {
                 return now;
             }
             at += 1;
-            now = now.line_ended(words, work, out);
+            now = now.line_ended(book, words, work, out);
             if now.output.error != 0 {
                 return now;
             }
@@ -126,24 +146,31 @@ impl Session {
     }
 
     // With what was read at one go, and every answer to it written out.
-    fn take_chunk(self, input: &[u8], words: &mut [u16], work: &mut [u16], out: &mut [u8]) -> Self
-        ensures { λ r. ⌜ TakesChunk (now (input .entry)) (place self (now (words .entry)) (now (work .entry)) (now (out .entry)))
-            (place r (now (words .exit)) (now (work .exit)) (now (out .exit))) ⌝ }
+    fn take_chunk(
+        self,
+        input: &[u8],
+        book: &mut [u16],
+        words: &mut [u16],
+        work: &mut [u16],
+        out: &mut [u8],
+    ) -> Self
+        ensures { λ r. ⌜ TakesChunk (now (input .entry)) (place self (now (book .entry)) (now (words .entry)) (now (work .entry)) (now (out .entry)))
+            (place r (now (book .exit)) (now (words .exit)) (now (work .exit)) (now (out .exit))) ⌝ }
     {
-        let mut after = self.take_all(input, words, work, out);
+        let mut after = self.take_all(input, book, words, work, out);
         after.output = after.output.flushed(out);
         after
     }
 
     // At the end of the input: a last line with no line feed is answered too.
-    fn finished(self, words: &mut [u16], work: &mut [u16], out: &mut [u8]) -> Self
-        ensures { λ r. ⌜ Finishes (place self (now (words .entry)) (now (work .entry)) (now (out .entry)))
-            (place r (now (words .exit)) (now (work .exit)) (now (out .exit))) ⌝ }
+    fn finished(self, book: &mut [u16], words: &mut [u16], work: &mut [u16], out: &mut [u8]) -> Self
+        ensures { λ r. ⌜ Finishes (place self (now (book .entry)) (now (words .entry)) (now (work .entry)) (now (out .entry)))
+            (place r (now (book .exit)) (now (words .exit)) (now (work .exit)) (now (out .exit))) ⌝ }
     {
         if !self.request.begun() {
             return self;
         }
-        let mut after = self.line_ended(words, work, out);
+        let mut after = self.line_ended(book, words, work, out);
         after.output = after.output.flushed(out);
         after
     }
@@ -180,12 +207,13 @@ fn turn(
     program: &[u8],
     session: Session,
     input: &mut [u8],
+    book: &mut [u16],
     words: &mut [u16],
     work: &mut [u16],
     out: &mut [u8],
 ) -> Next
-    ensures { λ r. ⌜ Turns (place session (now (words .entry)) (now (work .entry)) (now (out .entry))) (r .over)
-        (place (r .session) (now (words .exit)) (now (work .exit)) (now (out .exit))) ⌝ }
+    ensures { λ r. ⌜ Turns (place session (now (book .entry)) (now (words .entry)) (now (work .entry)) (now (out .entry))) (r .over)
+        (place (r .session) (now (book .exit)) (now (words .exit)) (now (work .exit)) (now (out .exit))) ⌝ }
 {
     let got = streams::read(STDIN_FILENO, input);
     if got.error != 0 {
@@ -198,7 +226,7 @@ fn turn(
         };
     }
     if got.count == 0 {
-        let last = session.finished(words, work, out);
+        let last = session.finished(book, words, work, out);
         conclude(program, last.output);
         return Next {
             session: last,
@@ -207,7 +235,7 @@ fn turn(
     }
     going_on(
         program,
-        session.take_chunk(text::filled(input, got.count), words, work, out),
+        session.take_chunk(text::filled(input, got.count), book, words, work, out),
     )
 }
 
@@ -216,18 +244,19 @@ fn serve_on(
     program: &[u8],
     keeps: bool,
     input: &mut [u8],
+    book: &mut [u16],
     words: &mut [u16],
     work: &mut [u16],
     out: &mut [u8],
 )
-    ensures { λ _. ⌜ ((last : Session) × Lasts (place (begun keeps) (now (words .entry)) (now (work .entry)) (now (out .entry)))
-        (place last (now (words .exit)) (now (work .exit)) (now (out .exit)))) ⌝ }
+    ensures { λ _. ⌜ ((last : Session) × Lasts (place (begun keeps) (now (book .entry)) (now (words .entry)) (now (work .entry)) (now (out .entry)))
+        (place last (now (book .exit)) (now (words .exit)) (now (work .exit)) (now (out .exit)))) ⌝ }
 {
     let mut now = Session::new(keeps);
     let mut turns = u64::MAX;
     while 0 < turns {
         turns -= 1;
-        let after = turn(program, now, input, words, work, out);
+        let after = turn(program, now, input, book, words, work, out);
         if after.over {
             return;
         }
@@ -238,8 +267,17 @@ fn serve_on(
 // The same with slices of its own.
 pub fn serve(program: &[u8], keeps: bool) {
     let mut input = io::large_buffer();
+    let mut book = [0u16; 66000];
     let mut words = [0u16; 1025];
     let mut work = [0u16; 1048576];
-    let mut out = io::large_buffer();
-    serve_on(program, keeps, &mut input, &mut words, &mut work, &mut out);
+    let mut out = [0u8; 1048576];
+    serve_on(
+        program,
+        keeps,
+        &mut input,
+        &mut book,
+        &mut words,
+        &mut work,
+        &mut out,
+    );
 }

@@ -73,11 +73,11 @@ node (castdown e) = (_, refl, refl)
 node (mu a e) = (_, refl, refl)
 node (name i) = (_, refl, no-parts (2048 + i) (omega arith))
 
-read-node : (ws : List ℕ) (t : Term) → read ws ≡ ok t → Node ws
+read-node : (ws : List ℕ) (t : Term) → read 0 ws ≡ ok t → Node ws
 unfolding found found-in
 read-node ws t e =
     let (w, begins, many) = node t in
-    let same : ws ≡ w ∷ emits (parts t) = read-sound ws t e .0 ∙ begins in
+    let same : ws ≡ w ∷ emits (parts t) = read-sound 0 ws t e .0 ∙ begins in
     record {
       below = parts t;
       some = rw same (omega arith);
@@ -86,14 +86,14 @@ read-node ws t e =
       placed = λ k. rw e refl;
     }
 
-accepted : (ws : List ℕ) → ok tt ≡ outcome (read ws) → Node ws
-accepted ws h = let (t, e) = read-term ws (sym h) in read-node ws t e
+accepted : (ws : List ℕ) → ok tt ≡ outcome (read 0 ws) → Node ws
+accepted ws h = let (t, e) = read-term 0 ws (sym h) in read-node ws t e
 
-pub found-refused : {s : Reason} {q : ℕ} (ws : List ℕ) (k : ℕ) → refused s q ≡ outcome (read ws) → absent ≡ found ws k
+pub found-refused : {s : Reason} {q : ℕ} (ws : List ℕ) (k : ℕ) → refused s q ≡ outcome (read 0 ws) → absent ≡ found ws k
 unfolding found found-in
-found-refused ws k h = rw (reads-refusal ws (sym h)) refl
+found-refused ws k h = rw (reads-refusal 0 ws (sym h)) refl
 
-module _ (ws : List ℕ) (e : ok tt ≡ outcome (read ws)) where
+module _ (ws : List ℕ) (e : ok tt ≡ outcome (read 0 ws)) where
   pub inhabited : 1 ≤ length ws
   inhabited = accepted ws e .some
 

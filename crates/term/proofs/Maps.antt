@@ -12,7 +12,7 @@ use Rattle.term.specs.declared.Found.{Found}
 use Rattle.term.specs.declared.reading.Reading.{Reading}
 use Rattle.term.specs.declared.reading.Reading.the-variants as reading
 use Rattle.term.specs.declared.refusal.Reason.{Reason}
-use Rattle.term.specs.declared.refusal.Reason.the-variants.{LimitNotAllowed, WorkShort, OutputShort, LengthNotAllowed, NoMeaning, ListEnds, WordsAfter, Level65, Unbound, NotStar, NotProduct, WrongArgument, NoStep, WrongCast, WrongRecursion, OverLimit, CallerNotAllowed}
+use Rattle.term.specs.declared.refusal.Reason.the-variants.{LimitNotAllowed, WorkShort, OutputShort, LengthNotAllowed, NoMeaning, ListEnds, WordsAfter, Level65, Unbound, NotStar, NotProduct, WrongArgument, NoStep, WrongCast, WrongRecursion, OverLimit, NameNotThere, BookFull, OwnerNotAllowed, CallerNotAllowed}
 use Rattle.term.specs.declared.word.Meaning.{Meaning}
 use Rattle.term.specs.declared.word.Meaning.the-variants.{Star, CastDown, Application, CastUp, Abstraction, Product, Recursion, Variable, Nothing, Name}
 use Rattle.term.specs.Found.{found-of}
@@ -40,9 +40,9 @@ reasons =
     ∷ WrongCast
     ∷ WrongRecursion
     ∷ OverLimit
-    ∷ LimitNotAllowed
-    ∷ LimitNotAllowed
-    ∷ LimitNotAllowed
+    ∷ NameNotThere
+    ∷ BookFull
+    ∷ OwnerNotAllowed
     ∷ LimitNotAllowed
     ∷ CallerNotAllowed
     ∷ []
@@ -68,6 +68,9 @@ reason-again NoStep = refl
 reason-again WrongCast = refl
 reason-again WrongRecursion = refl
 reason-again OverLimit = refl
+reason-again NameNotThere = refl
+reason-again BookFull = refl
+reason-again OwnerNotAllowed = refl
 reason-again CallerNotAllowed = refl
 
 pub reason-of-injective : (a b : Reason) → reason-of a ≡ reason-of b → a ≡ b

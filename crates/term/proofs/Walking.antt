@@ -96,22 +96,22 @@ pub span-emit : (t : Term) (k : List ℕ) → span (emit t k) 1 ≡ size t
 span-emit t k = passed t k 0 ∙ omega (arith, span-none k)
 
 -- A list that is not refused is read as a term, and is the words of that term.
-pub read-term : (ws : List ℕ) → outcome (read ws) ≡ ok tt → (t : Term) × (read ws ≡ ok t)
-read-term ws = on (read ws)
+pub read-term : (n : ℕ) (ws : List ℕ) → outcome (read n ws) ≡ ok tt → (t : Term) × (read n ws ≡ ok t)
+read-term n ws = on (read n ws)
   where
     on : (x : Answer Term) → outcome x ≡ ok tt → (t : Term) × (x ≡ ok t)
     on (ok t) h = (t, refl)
     on (refused r p) h = absurd (true≢false cc)
 
-pub reads-term : (ws : List ℕ) → outcome (read ws) ≡ ok tt → (t : Term) × (ws ≡ words t) × Readable 0 t
-reads-term ws h =
-    let (t, e) = read-term ws h in
-    let (coded, readable) = read-sound ws t e in
+pub reads-term : (n : ℕ) (ws : List ℕ) → outcome (read n ws) ≡ ok tt → (t : Term) × (ws ≡ words t) × Readable n t
+reads-term n ws h =
+    let (t, e) = read-term n ws h in
+    let (coded, readable) = read-sound n ws t e in
     (t, coded, readable)
 
 -- One that is refused is refused as the calculus reads it.
-pub reads-refusal : (ws : List ℕ) {r : Reason} {p : ℕ} → outcome (read ws) ≡ refused r p → read ws ≡ refused r p
-reads-refusal ws {r} {p} h = on (read ws) h
+pub reads-refusal : (n : ℕ) (ws : List ℕ) {r : Reason} {p : ℕ} → outcome (read n ws) ≡ refused r p → read n ws ≡ refused r p
+reads-refusal n ws {r} {p} h = on (read n ws) h
   where
     on : (x : Answer Term) → outcome x ≡ refused r p → x ≡ refused r p
     on (ok t) h = absurd (true≢false cc)

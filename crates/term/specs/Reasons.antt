@@ -2,7 +2,7 @@
 use Prim.Native.Nat.{ℕ}
 use Rattle.calculus.specs.Answer as calculus
 use Rattle.term.specs.declared.refusal.Reason.{Reason}
-use Rattle.term.specs.declared.refusal.Reason.the-variants.{LimitNotAllowed, WorkShort, OutputShort, LengthNotAllowed, NoMeaning, ListEnds, WordsAfter, Level65, Unbound, NotStar, NotProduct, WrongArgument, NoStep, WrongCast, WrongRecursion, OverLimit, CallerNotAllowed}
+use Rattle.term.specs.declared.refusal.Reason.the-variants.{LimitNotAllowed, WorkShort, OutputShort, LengthNotAllowed, NoMeaning, ListEnds, WordsAfter, Level65, Unbound, NotStar, NotProduct, WrongArgument, NoStep, WrongCast, WrongRecursion, OverLimit, NameNotThere, BookFull, OwnerNotAllowed, CallerNotAllowed}
 
 abbrev pub reason-of : Reason → calculus.Reason
 reason-of LimitNotAllowed = calculus.limit-not-allowed
@@ -21,6 +21,9 @@ reason-of NoStep = calculus.no-step
 reason-of WrongCast = calculus.wrong-cast
 reason-of WrongRecursion = calculus.wrong-recursion
 reason-of OverLimit = calculus.over-limit
+reason-of NameNotThere = calculus.name-not-there
+reason-of BookFull = calculus.book-full
+reason-of OwnerNotAllowed = calculus.owner-not-allowed
 reason-of CallerNotAllowed = calculus.caller-not-allowed
 
 -- The number of each reason.

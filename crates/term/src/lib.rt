@@ -27,7 +27,7 @@ pub fn find(term: &[u16], number: u32) -> Found
         start: 0,
         length: 0,
     };
-    let Reading::Term = read(term) else {
+    let Reading::Term = read(term, 0) else {
         return absent;
     };
     let count = parts(term[0]);

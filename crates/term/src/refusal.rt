@@ -1,6 +1,6 @@
 // Why a call is refused, and where (document 01, Calls).
 
-// One variant for each refusal of document 01, in the order of its numbers, and for 21 of document 02.
+// One variant for each refusal of document 01, in the order of its numbers, and for 17–19 and 21 of document 02.
 pub enum Reason {
     LimitNotAllowed,
     WorkShort,
@@ -18,6 +18,9 @@ pub enum Reason {
     WrongCast,
     WrongRecursion,
     OverLimit,
+    NameNotThere,
+    BookFull,
+    OwnerNotAllowed,
     CallerNotAllowed,
 }
 

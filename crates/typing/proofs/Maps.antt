@@ -1,4 +1,4 @@
--- What a check answers and leaves is told apart by the map to the outcomes of the calculus, through which its contract passes: the two
+-- What a check and an addition answer and leave is told apart by the maps to the outcomes, through which their contracts pass: the two
 -- answers are different constructors, reasons are told apart, and the rest is kept as it is.
 use Prim.Native.Nat.{ℕ}
 use mathlib.Core.Bool.{true≢false}
@@ -7,7 +7,7 @@ use mathlib.Core.Path.{_≡_, ap, ap₂}
 use Rattle.term.proofs.Maps.{reason-of-injective}
 use Rattle.typing.specs.declared.Checked.{Checked}
 use Rattle.typing.specs.declared.Checked.the-variants as checked
-use Rattle.typing.specs.Outcomes.{answer-of, checked-of}
+use Rattle.typing.specs.Outcomes.{answer-of, checked-of, added-of}
 
 answer-of-injective : (r s : Checked) → answer-of r ≡ answer-of s → r ≡ s
 answer-of-injective (checked.Typed m) (checked.Typed n) e = ap checked.Typed (cc e)
@@ -20,3 +20,9 @@ pub checked-of-injective : (r s : Checked) {W W′ O O′ : List ℕ}
     → checked-of r W O ≡ checked-of s W′ O′
     → (r ≡ s) × (W ≡ W′) × (O ≡ O′)
 checked-of-injective r s e = (answer-of-injective r s (ap (λ c. c .answer) e), ap (λ c. c .work) e, ap (λ c. c .output) e)
+
+pub added-of-injective : (r s : Checked) {K K′ W W′ O O′ : List ℕ}
+    → added-of r K W O ≡ added-of s K′ W′ O′
+    → (r ≡ s) × (K ≡ K′) × (W ≡ W′) × (O ≡ O′)
+added-of-injective r s e =
+    (answer-of-injective r s (ap (λ c. c .answer) e), ap (λ c. c .book) e, ap (λ c. c .work) e, ap (λ c. c .output) e)

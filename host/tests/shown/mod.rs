@@ -109,6 +109,7 @@ impl<'a> Reader<'a> {
                 inner
             }
             "⋆" | "*" => vec![0],
+            name if name.starts_with('@') => vec![2048 + name[1..].parse::<u16>().expect(name)],
             name => match self.scope.iter().rev().position(|other| *other == name) {
                 Some(index) => vec![16 + index as u16],
                 None => vec![16 + name.strip_prefix('#').expect(name).parse::<u16>().expect(name) + self.scope.len() as u16],

@@ -10,18 +10,18 @@ returns c = unreadable
 
 returns-2 : tie.Need-returns-2
 returns-2 c =
-    let last = c .before .before .before .before .before .before .before in
+    let last = c .before .before .before .before .before .before .before .before .before in
     finished (last .finished .ensures)
 
-same-length-6 : tie.Need-same-length-6
-same-length-6 c =
-    let chunk = c .before .before .before .before .before .before .before in
-    let read = chunk .before .before .before .before .before .before .before .before .before .before .before .before in
+same-length-7 : tie.Need-same-length-7
+same-length-7 c =
+    let chunk = c .before .before .before .before .before .before .before .before .before in
+    let read = chunk .before .before .before .before .before .before .before .before .before .before .before .before .before in
     read .read .kept .1 .0
 
 returns-3 : tie.Need-returns-3
 returns-3 c =
-    let chunk = c .before .before .before .before .before .before .before in
+    let chunk = c .before .before .before .before .before .before .before .before .before in
     turns-on (chunk .take-chunk .ensures) (c .going-on .ensures)
 
 pub turn-spec : {M : Type 1} → statement M
@@ -29,6 +29,6 @@ turn-spec =
     tie.close
     (tie.spec
     (λ c κs. search needs) (λ c. search needs) (λ c. search needs) (λ c κs. search needs) (λ c. search needs) returns
-    (λ c κs. search needs) (λ c κs. search needs) (λ c. search needs) (λ c. search needs) (λ c. search needs) (λ c. search needs) returns-2
-    (λ c κs. search needs) (λ c κs. search needs) (λ c κs. search needs) same-length-6 (λ c. search needs) (λ c. search needs)
-    (λ c. search needs) returns-3)
+    (λ c κs. search needs) (λ c κs. search needs) (λ c. search needs) (λ c. search needs) (λ c. search needs)
+    (λ c. search needs) (λ c. search needs) returns-2 (λ c κs. search needs) (λ c κs. search needs) (λ c κs. search needs)
+    same-length-7 (λ c. search needs) (λ c. search needs) (λ c. search needs) (λ c. search needs) returns-3)

@@ -15,7 +15,7 @@ use Rattle.term.proofs.find.Statement.{statement}
 use Rattle.term.proofs.find.Tie as tie
 
 -- Behind the test of what `read` answers, the words are a term's.
-is-term : (c : tie.After-enum-told) → ok tt ≡ outcome (read (c .before .before .before .before .args .term .now))
+is-term : (c : tie.After-enum-told) → ok tt ≡ outcome (read 0 (c .before .before .before .before .args .term .now))
 is-term c = ap reading-of (sym (c .enum-told .given .1)) ∙ c .before .before .read .ensures
 
 returns : tie.Need-returns

@@ -4,7 +4,9 @@ use crate::input::{Held, Input, Room};
 use crate::json::{string, Object};
 use crate::options::{Command, Options};
 use crate::{complain, ACCEPTED, FAILED, REFUSED};
-use feguavy::{Buffers, Caller, Desk, Ended, Explanation, Fact, Reason, Refusal, Style, Variable};
+use feguavy::{
+    Buffers, Caller, Desk, Ended, Explanation, Fact, ForeignBook, Mentioned, Owner, Ran, Reason, Refusal, Style, Variable,
+};
 use std::fmt::{Arguments, Write as _};
 use std::io::{self, Write};
 
@@ -25,49 +27,77 @@ impl Answers {
         !self.complaints.is_empty()
     }
 
+    /// A line of JSON, or a line.
+    pub fn put(&mut self, text: &str) {
+        self.text.push_str(text);
+        self.text.push('\n');
+    }
+
+    /// A complaint, after which the command has failed.
+    pub fn complain(&mut self, complaint: String) {
+        self.status = FAILED;
+        self.note(complaint);
+    }
+
+    /// What is said on standard error, and is no failure.
+    pub fn note(&mut self, note: String) {
+        self.complaints.push((self.text.len(), note));
+    }
+
     pub fn write(&self, output: &mut impl Write) -> io::Result<()> {
         let mut from = 0;
         for (at, complaint) in &self.complaints {
-            output.write_all(self.text[from..*at].as_bytes())?;
+            output.write_all(&self.text.as_bytes()[from..*at])?;
             // in the order of the inputs where both go to one place
             output.flush()?;
             complain(complaint);
             from = *at;
         }
-        output.write_all(self.text[from..].as_bytes())
+        output.write_all(&self.text.as_bytes()[from..])
     }
 }
 
 /// The desk of a run that its budget alone limits.
-pub const AMPLE: Desk = Desk::alone(u32::MAX);
+const AMPLE: Desk = Desk::alone(u32::MAX);
+
+/// A run, over a book or none, with the state that it reached.
+pub fn run<'a>(buffers: &'a mut Buffers, book: Option<&ForeignBook>, term: &[u16], budget: u32) -> (Ran, &'a [u16]) {
+    match book {
+        Some(book) => buffers.run_in(book, term, budget, Caller::FIRST, AMPLE),
+        None => buffers.run(term, budget, Caller::FIRST, AMPLE),
+    }
+}
 
 /// What a thread needs to answer.
 pub struct Worker<'a> {
     pub form: Form<'a>,
+    book: Option<&'a ForeignBook>,
     buffers: Buffers,
     room: Room,
 }
 
 impl<'a> Worker<'a> {
-    pub fn new(options: &'a Options) -> Worker<'a> {
-        Worker { form: Form::of(options), buffers: Buffers::for_limit(options.limit), room: Room::default() }
+    pub fn new(options: &'a Options, book: Option<&'a ForeignBook>) -> Worker<'a> {
+        Worker { form: Form::of(options), book, buffers: Buffers::for_limit(options.limit), room: Room::default() }
     }
 
     pub fn answer(&mut self, input: &Input, answers: &mut Answers) {
         answers.count += 1;
-        let Worker { form, buffers, room } = self;
+        let Worker { form, book, buffers, room } = self;
         let Some(term) = form.read(input, room, answers) else { return };
+        let over = book.zip(form.options.owner);
         match form.options.command {
-            Command::Check => match buffers.type_of(term) {
-                Ok(found) => form.typed(input, found, answers),
+            Command::Check => match type_of(buffers, over, term) {
+                Ok(found) => form.typed(input, found, None, answers),
                 Err(refusal) => form.refused(input, refusal, answers),
             },
-            Command::Explain => match buffers.type_of(term) {
-                Ok(found) => form.typed(input, found, answers),
-                Err(refusal) => form.explained(input, &form.style.explain(term, refusal, form.options.limit), answers),
+            Command::Explain => match type_of(buffers, over, term) {
+                Ok(found) => form.typed(input, found, None, answers),
+                Err(refusal) => form.explained(input, &form.explain(over, term, refusal), answers),
             },
+            Command::Add => unreachable!("what is added is not answered by itself"),
             Command::Run => {
-                let (ran, state) = buffers.run(term, form.options.budget, Caller::FIRST, AMPLE);
+                let (ran, state) = run(buffers, *book, term, form.options.budget);
                 match ran.answer {
                     Ok(ended) => {
                         let text = form.text(state);
@@ -95,16 +125,23 @@ impl<'a> Worker<'a> {
     }
 }
 
+fn type_of<'a>(buffers: &'a mut Buffers, over: Option<(&ForeignBook, Owner)>, term: &[u16]) -> Result<&'a [u16], Refusal> {
+    match over {
+        Some((book, owner)) => buffers.type_in(book, owner, term),
+        None => buffers.type_of(term),
+    }
+}
+
 /// How answers are written.
 #[derive(Clone, Copy)]
 pub struct Form<'a> {
     pub options: &'a Options,
     /// On one line, except where a term is what is asked for.
-    style: Style,
+    pub style: Style,
 }
 
 impl<'a> Form<'a> {
-    fn of(options: &'a Options) -> Form<'a> {
+    pub fn of(options: &'a Options) -> Form<'a> {
         let several_lines = !options.json && matches!(options.command, Command::Show | Command::Explain);
         Form { options, style: if several_lines { options.style } else { options.style.on_one_line() } }
     }
@@ -126,16 +163,29 @@ impl<'a> Form<'a> {
                     let json = || named(input, "unreadable").text("text", &why);
                     self.line(input, FAILED, format_args!(""), json, answers);
                 }
-                answers.status = FAILED;
-                answers.complaints.push((answers.text.len(), format!("{}: {why}", input.name())));
+                answers.complain(format!("{}: {why}", input.name()));
             }
         }
         None
     }
 
-    fn typed(&self, input: &Input, found: &[u16], answers: &mut Answers) {
+    fn explain(&self, over: Option<(&ForeignBook, Owner)>, term: &[u16], refusal: Refusal) -> Explanation {
+        match over {
+            Some((book, owner)) => self.style.explain_in(book.words(), owner, term, refusal, self.options.limit),
+            None => self.style.explain(term, refusal, self.options.limit),
+        }
+    }
+
+    /// The type, and of which definition it is that of.
+    pub fn typed(&self, input: &Input, found: &[u16], definition: Option<usize>, answers: &mut Answers) {
         let text = self.text(found);
-        let json = || named(input, "typed").words("type", found).text("text", &text);
+        let json = || {
+            let object = named(input, "typed").words("type", found).text("text", &text);
+            match definition {
+                Some(number) => object.number("definition", number),
+                None => object,
+            }
+        };
         self.line(input, ACCEPTED, format_args!("typed: {text}"), json, answers);
     }
 
@@ -149,21 +199,30 @@ impl<'a> Form<'a> {
     }
 
     fn explained(&self, input: &Input, explanation: &Explanation, answers: &mut Answers) {
-        let Explanation { refusal, shown, message, facts, variables, hint, least_limit, complete } = explanation;
+        let Explanation { refusal, shown, message, facts, variables, definitions, hint, least_limit, complete } = explanation;
         let json = || {
             let fact = |fact: &Fact| Object::new().text("name", fact.name).words("words", &fact.words).text("text", &fact.text);
             let variable = |variable: &Variable| {
                 let object = Object::new().text("name", &variable.name).number("binder", variable.binder);
                 object.words("words", &variable.words).text("text", &variable.text)
             };
-            refused_object(input, *refusal, &refusal.to_string())
+            let definition = |definition: &Mentioned| {
+                let Mentioned { number, owner, mark, words, text } = definition;
+                let object = Object::new().number("number", *number).number("owner", owner.number() as usize);
+                object.text("mark", &mark.to_string()).words("words", words).text("text", text)
+            };
+            let object = refused_object(input, *refusal, &refusal.to_string())
                 .optional("shown", shown.as_deref().map(string))
                 .text("message", message)
                 .objects("facts", facts.iter().map(fact))
                 .objects("variables", variables.iter().map(variable))
                 .optional("hint", hint.as_deref().map(string))
                 .optional("least_limit", least_limit.map(|least| least.to_string()))
-                .with("complete", if *complete { "true" } else { "false" })
+                .with("complete", if *complete { "true" } else { "false" });
+            match self.options.book {
+                Some(_) => object.objects("definitions", definitions.iter().map(definition)),
+                None => object,
+            }
         };
         // a line of its own between one explanation and the next
         let blank = if self.options.inputs.len() > 1 { "\n" } else { "" };

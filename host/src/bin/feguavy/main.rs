@@ -1,12 +1,15 @@
-//! The command `feguavy`: checks, runs, shows and explains terms in files or given as words. `feguavy --help` says how.
+//! The command `feguavy`: checks, runs, shows and explains terms in files or given as words, and adds them to books. `feguavy --help` says how.
 
+mod add;
 mod answer;
+mod books;
 mod input;
 mod json;
 mod many;
 mod options;
 mod trace;
 
+use feguavy::ForeignBook;
 use options::{Command, Options, Parsed, HELP};
 use std::io::{self, ErrorKind, Write};
 use std::process::ExitCode;
@@ -28,18 +31,27 @@ fn main() -> ExitCode {
             return ExitCode::from(FAILED);
         }
     };
+    let book = match books::lent(&options) {
+        Ok(book) => book,
+        Err(message) => {
+            complain(&message);
+            return ExitCode::from(FAILED);
+        }
+    };
     let mut output = io::BufWriter::with_capacity(1 << 16, io::stdout());
     let mut status = ACCEPTED;
-    let written = answered(&options, &mut output, &mut status).and_then(|()| output.flush());
+    let written = answered(&options, book.as_ref(), &mut output, &mut status).and_then(|()| output.flush());
     ended(written, status)
 }
 
-fn answered(options: &Options, output: &mut (impl Write + Send), status: &mut u8) -> io::Result<()> {
-    if options.command == Command::Run && options.trace {
-        trace::each(options, output, status)
-    } else {
-        many::each(options, output, status)
+fn answered(options: &Options, book: Option<&ForeignBook>, output: &mut (impl Write + Send), status: &mut u8) -> io::Result<()> {
+    match (options.command, book) {
+        (Command::Add, _) => return add::each(options, output, status),
+        (Command::Run, _) if options.trace => return trace::each(options, book, output, status),
+        (Command::Show, Some(book)) => books::show(options, book, output)?,
+        _ => {}
     }
+    many::each(options, book, output, status)
 }
 
 fn said(text: &str) -> ExitCode {

@@ -2,6 +2,7 @@
 
 use crate::answer::{Answers, Worker};
 use crate::options::Options;
+use feguavy::ForeignBook;
 use std::collections::BTreeMap;
 use std::io::{self, IsTerminal, Write};
 use std::sync::atomic::{AtomicUsize, Ordering};
@@ -13,14 +14,14 @@ fn chunk(inputs: usize, cores: usize) -> usize {
     (inputs / (16 * cores)).clamp(1, 256)
 }
 
-pub fn each(options: &Options, output: &mut (impl Write + Send), status: &mut u8) -> io::Result<()> {
+pub fn each(options: &Options, book: Option<&ForeignBook>, output: &mut (impl Write + Send), status: &mut u8) -> io::Result<()> {
     let cores = std::thread::available_parallelism().map_or(1, usize::from);
     let chunks: Vec<_> = options.inputs.chunks(chunk(options.inputs.len(), cores)).collect();
     let next = AtomicUsize::new(0);
     let progress = Progress::of(options.inputs.len());
     let order = Mutex::new(Order { output, progress, due: 0, early: BTreeMap::new(), status: 0, written: Ok(()) });
     let work = || {
-        let mut worker = Worker::new(options);
+        let mut worker = Worker::new(options, book);
         while let Some((at, chunk)) = Some(next.fetch_add(1, Ordering::Relaxed)).and_then(|at| Some((at, chunks.get(at)?))) {
             let mut answers = Answers::default();
             chunk.iter().for_each(|input| worker.answer(input, &mut answers));

@@ -1,34 +1,17 @@
--- `checked` meets its contract: the answer 0 tells a type from a refusal, and the type is the first words of the array lent.
+-- `checked` meets its contract: the line is that of the check's numbers.
 use borrow.Author.Needs.{needs}
-use Rattle.text.specs.Texts.{ascii}
-use Rattle.protocol.specs.Answers.{refusal-line}
-use Rattle.protocol.proofs.Replying.{refused-check, typed-check}
+use Rattle.protocol.proofs.Replying.{check-replies}
 use Rattle.protocol.proofs.answer.checked.Statement.{statement}
 use Rattle.protocol.proofs.answer.checked.Tie as tie
 
 returns : tie.Need-returns
-unfolding refusal-line
 returns c =
-    let refusal = c .before .before in
-    let test = refusal .before .before in
-    let check = test .before .before .before .before .before in
-    refused-check (check .feguavy-check .result) (check .feguavy-check .ensures) (test .if1 .taken) (refusal .refusal .ensures)
-
-returns-2 : tie.Need-returns-2
-unfolding ascii
-returns-2 c =
-    let spaced = c .before .before in
-    let front = spaced .before .before in
-    let bytes = front .before .before .before .before .before in
-    let test = bytes .before .before .before in
-    let check = test .before .before .before .before .before in
-    typed-check (check .feguavy-check .result) (check .feguavy-check .ensures) (test .if1 .left) (front .front .ensures)
-    (bytes .bytes .ensures) (spaced .spaced .ensures)
+    let line = c .before .before in
+    check-replies (line .before .before .before .before .before .before .feguavy-check .ensures) (line .checked-line .ensures)
 
 pub checked-spec : {M : Type 1} → statement M
 checked-spec =
     tie.close
     (tie.spec
-    (λ c. search needs) (λ c κs. search needs) (λ c κs. search needs) (λ c. search needs) (λ c. search needs) returns
-    (λ c. search needs) (λ c κs. search needs) (λ c. search needs) (λ c. search needs) (λ c κs. search needs)
-    (λ c κs. search needs) (λ c. search needs) (λ c. search needs) returns-2)
+    (λ c. search needs) (λ c κs. search needs) (λ c. search needs) (λ c κs. search needs) (λ c. search needs)
+    (λ c. search needs) returns)

@@ -13,8 +13,8 @@ returns-2 : tie.Need-returns-2
 returns-2 c =
     let room = c .before in
     let more = room .before .before in
-    let told = more .before .before .before .before .before .before in
-    let test = told .before .before .before in
+    let told = more .before .before .before .before .before .before .before .before in
+    let test = told .before .before .before .before in
     let ready = test .before .before in
     rw (c .new .ensures)
     (answered (rw (ready .before .before .granted .ensures) at (ready .ready-for .ensures)) (test .if1 .left) (told .replied .ensures)
@@ -25,4 +25,4 @@ answered-spec =
     tie.close
     (tie.spec
     (λ c κs. search needs) (λ c κs. search needs) (λ c. search needs) returns (λ c κs. search needs) (λ c κs. search needs)
-    (λ c κs. search needs) (λ c κs. search needs) (λ c. search needs) (λ c. search needs) returns-2)
+    (λ c κs. search needs) (λ c κs. search needs) (λ c. search needs) (λ c. search needs) (λ c. search needs) returns-2)

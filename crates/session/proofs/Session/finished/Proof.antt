@@ -11,8 +11,8 @@ returns c = let begun = c .before .begun in all-read (sym (begun .ensures) ∙ n
 
 returns-2 : tie.Need-returns-2
 returns-2 c =
-    let call = c .before .before .before .before .before .before .before .before in
-    let test = call .before .before .before .before in
+    let call = c .before .before .before .before .before .before .before .before .before .before in
+    let test = call .before .before .before .before .before in
     let begun = test .before .begun in
     last-line (sym (begun .ensures) ∙ not-false (begun .result) (test .if1 .left)) (call .line-ended .ensures) (flushes (c .flushed .ensures))
 
@@ -21,4 +21,4 @@ finished-spec =
     tie.close
     (tie.spec
     (λ c κs. search needs) returns (λ c κs. search needs) (λ c κs. search needs) (λ c. search needs) (λ c. search needs)
-    (λ c. search needs) returns-2)
+    (λ c. search needs) (λ c. search needs) returns-2)

@@ -1,4 +1,4 @@
--- `granted` meets its contract: by whether the desk is kept.
+-- `granted` meets its contract: by whether the desk and the book are kept.
 use borrow.Author.Needs.{needs}
 use Rattle.session.specs.Sessions.{granted-in}
 use Rattle.session.proofs.Session.granted.Statement.{statement}

@@ -6,11 +6,12 @@ use Rattle.session.proofs.Session.take_chunk.Tie as tie
 
 returns : tie.Need-returns
 returns c =
-    let all = c .before .before .before .before .before .before .before .before in
+    let all = c .before .before .before .before .before .before .before .before .before .before in
     chunk (all .take-all .ensures) (flushes (c .flushed .ensures))
 
 pub take-chunk-spec : {M : Type 1} → statement M
 take-chunk-spec =
     tie.close
     (tie.spec
-    (λ c κs. search needs) (λ c κs. search needs) (λ c. search needs) (λ c. search needs) (λ c. search needs) returns)
+    (λ c κs. search needs) (λ c κs. search needs) (λ c. search needs) (λ c. search needs) (λ c. search needs)
+    (λ c. search needs) returns)

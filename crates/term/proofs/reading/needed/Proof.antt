@@ -1,14 +1,13 @@
--- `needed` meets its contract: a variable asks for more binders than its index, a word that means nothing for more than `deepest`,
--- and every other word for none.
+-- `needed` meets its contract: a variable asks for more binders than its index, a word that means nothing, or a name, for more than
+-- `longest`, and every other word for none.
 use mathlib.Core.Path.{_≡_, sym, ap, _∙_}
 use native.Mathlib.Omega.{arith}
 use borrow.Author.Needs.{needs}
 use lib.Dec.{leb·zero}
 use Rattle.calculus.specs.Meaning.{a-variable, meaning}
-use Rattle.calculus.specs.Scan.{means}
 use Rattle.term.specs.Subterms.{inside}
 use Rattle.term.specs.Word.{meaning-of}
-use Rattle.term.proofs.Visits.{variable-needs, nothing-needs, unread, anywhere}
+use Rattle.term.proofs.Visits.{variable-needs, nowhere-needs, unread, anywhere}
 use Rattle.term.proofs.Words.{variable-index}
 use Rattle.term.proofs.reading.needed.Statement.{statement}
 use Rattle.term.proofs.reading.needed.Tie as tie
@@ -26,12 +25,12 @@ returns c b h = variable-needs (c .before .index .given .0 .0) _ b (variable c) 
 returns-2 : tie.Need-returns-2
 returns-2 c b h =
     let m = c .before .classify in
-    nothing-needs _ _ b (ap means (sym (m .ensures)) ∙ unread (m .result) (c .match .keys2)) (omega arith)
+    nowhere-needs (meaning-of (m .result)) _ b (unread (m .result) (c .match .keys2)) (omega arith) ∙ ap (λ x. inside 0 x b) (m .ensures)
 
 returns-3 : tie.Need-returns-3
 returns-3 c b h =
     let m = c .before .classify in
-    leb·zero b ∙ sym (anywhere (m .result) (c .match .keys3) b) ∙ ap (λ x. inside x b) (m .ensures)
+    leb·zero b ∙ sym (anywhere 0 (m .result) (c .match .keys3) b) ∙ ap (λ x. inside 0 x b) (m .ensures)
 
 pub needed-spec : {M : Type 1} → statement M
 needed-spec =

@@ -1,49 +1,54 @@
 -- `read` meets its contract: by the length of the list, and otherwise by what skimming it for one closed term of 64 levels
 -- answers.
-use mathlib.Core.Path.{sym, ap, _∙_}
+use mathlib.Core.Path.{refl, sym, ap, _∙_}
 use native.Mathlib.Nat.{pos-of-ne-zero}
 use borrow.Author.Needs.{needs}
+use lib.Dec.{lit≤}
 use Rattle.term.specs.Subterms.{subterm-of}
 use Rattle.term.proofs.Whole.{read-empty, read-long, read-refused, read-over, read-whole}
 use Rattle.term.proofs.reading.read.Statement.{statement}
 use Rattle.term.proofs.reading.read.Tie as tie
 
 returns : tie.Need-returns
-returns c = read-empty _ (c .if1 .taken)
+returns c = read-empty _ _ _ (c .if1 .taken)
 
 returns-2 : tie.Need-returns-2
-returns-2 c = read-long _ (c .if2 .taken)
+returns-2 c = read-long _ _ _ (c .if2 .taken)
 
 returns-3 : tie.Need-returns-3
 returns-3 c =
-    let r = c .before .before .before .before in
+    let r = c .before .before .before .before .before .before in
     read-over
-    _
-    (pos-of-ne-zero (r .before .before .if1 .left))
-    (r .before .if2 .left)
+    _ _ _
+    (pos-of-ne-zero (r .before .before .before .before .if1 .left))
+    (r .before .before .before .if2 .left)
     (ap subterm-of (sym (c .before .before .end .given .1)) ∙ r .read-first .ensures)
     (c .if3 .taken)
 
 returns-4 : tie.Need-returns-4
 returns-4 c =
-    let r = c .before .before .before in
+    let r = c .before .before .before .before .before in
     read-refused
-    _
-    (pos-of-ne-zero (r .before .before .if1 .left))
-    (r .before .if2 .left)
+    _ _ _
+    (pos-of-ne-zero (r .before .before .before .before .if1 .left))
+    (r .before .before .before .if2 .left)
     (ap subterm-of (sym (c .before .refusal .given .1)) ∙ r .read-first .ensures)
 
 returns-5 : tie.Need-returns-5
 returns-5 c =
-    let r = c .before .before .before .before in
+    let r = c .before .before .before .before .before .before in
     read-whole
-    _
-    (pos-of-ne-zero (r .before .before .if1 .left))
-    (r .before .if2 .left)
+    _ _ _
+    (pos-of-ne-zero (r .before .before .before .before .if1 .left))
+    (r .before .before .before .if2 .left)
     (ap subterm-of (sym (c .before .before .end .given .1)) ∙ r .read-first .ensures)
     (c .if3 .left)
+
+read-first-requires : tie.Need-read-first-requires
+read-first-requires c κs = (lit≤ tt, refl, refl)
 
 pub read-spec : {M : Type 1} → statement M
 read-spec =
     tie.close
-    (tie.spec returns returns-2 (λ c κs. search needs) (λ c. search needs) (λ c. search needs) returns-3 returns-4 returns-5)
+    (tie.spec
+    returns returns-2 (λ c. refl) (λ c. refl) read-first-requires (λ c. search needs) (λ c. search needs) returns-3 returns-4 returns-5)

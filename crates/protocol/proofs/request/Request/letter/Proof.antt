@@ -1,30 +1,22 @@
--- `letter` meets its contract: its tests are those of the definition.
-use mathlib.Core.Path.{_∙_}
+-- `letter` meets its contract: where a mark is awaited, one begins.
+use mathlib.Core.Logic.{⊎-elim}
+use mathlib.Core.Path.{sym, ap, _∙_}
 use borrow.Author.Needs.{needs}
-use Rattle.protocol.proofs.Fields.{letter-late, letter-sixth, letter-read}
+use Rattle.protocol.specs.Requests.{spelled}
+use Rattle.protocol.proofs.Fields.{letter-of-mark, letter-of-name}
 use Rattle.protocol.proofs.request.Request.letter.Statement.{statement}
 use Rattle.protocol.proofs.request.Request.letter.Tie as tie
 
 returns : tie.Need-returns
 returns c =
-    let args = c .before .before .before .args in
-    c .refused .ensures ∙ letter-late (args .self) (args .byte) (c .before .if1 .taken)
-
-returns-2 : tie.Need-returns-2
-returns-2 c =
-    let first = c .before .before .before in
-    let args = first .before .before .args in
-    c .refused2 .ensures ∙ letter-sixth (args .self) (args .byte) (first .if1 .left) (c .before .if2 .taken)
-
-returns-3 : tie.Need-returns-3
-returns-3 c =
-    let second = c .before .before in
-    let first = second .before .before in
-    let args = first .before .before .args in
-    letter-read (args .self) (args .byte) (first .if1 .left) (second .if2 .left)
+    let joined = c .before in
+    let awaits = joined .before .awaits-mark .ensures in
+    let a = joined .before .before .args in
+    c .spelled .ensures
+    ∙ ⊎-elim
+    (λ h. let (t, e) = h in ap (λ q. spelled q (a .byte)) e ∙ letter-of-mark (a .self) (a .byte) (sym awaits ∙ t .taken))
+    (λ h. let (l, e) = h in ap (λ q. spelled q (a .byte)) e ∙ letter-of-name (a .self) (a .byte) (sym awaits ∙ l .left))
+    (joined .if1 .came)
 
 pub letter-spec : {M : Type 1} → statement M
-letter-spec =
-    tie.close
-    (tie.spec
-    (λ c κs. search needs) returns (λ c κs. search needs) returns-2 (λ c. search needs) (λ c. search needs) (λ c. search needs) returns-3)
+letter-spec = tie.close (tie.spec (λ c κs. search needs) (λ c κs. search needs) returns)
