@@ -46,20 +46,20 @@ module _ {B : Book} (C : Closed B) {P : (ℕ → Term) → Context → Context �
   along_at q p w (t_ax _) = t_ax w
   along_at q p w (t_var _ x) = c.at_variable p w x
   along_at {σ = σ} q p w (t_app {e₂ = u} {τ₁ = b} f a) = rw (sub_substitute σ u b) (t_app (along_at q p w f) (along_at q p w a))
-  along_at q p w (t_lam e r) =
+  along_at {σ = σ} q p w (t_lam e r) =
       let r' = along_at refl p w r in
       let w' = env_var w (product_typed r').1 in
-      t_lam (along_at q (c.under_binder p w') w' e) r'
-  along_at q p w (t_pi a b) =
+      t_lam (along_at {σ = lift σ} q (c.under_binder p w') w' e) r'
+  along_at {σ = σ} q p w (t_pi a b) =
       let a' = along_at q p w a in
       let w' = env_var w a' in
-      t_pi a' (along_at q (c.under_binder p w') w' b)
+      t_pi a' (along_at {σ = lift σ} q (c.under_binder p w') w' b)
   along_at {σ = σ} q p w (t_castup e a s) = t_castup (along_at q p w e) (along_at q p w a) (step_along σ q s)
   along_at {σ = σ} q p w (t_castdown e a s) = t_castdown (along_at q p w e) (along_at refl p w a) (step_along σ q s)
-  along_at q p w (t_mu e a) =
+  along_at {σ = σ} q p w (t_mu e a) =
       let a' = along_at q p w a in
       let w' = env_var w a' in
-      t_mu (rw sub-raise at (along_at q (c.under_binder p w') w' e)) a'
+      t_mu (rw sub-raise at (along_at {σ = lift σ} q (c.under_binder p w') w' e)) a'
   along_at {σ = σ} q p w (t_name {i = i} {τ = τ} _ h) = rw (sub_closed σ τ (C.shut_types i τ h)) (t_name w h)
 
   pub along : {σ : ℕ → Term} {Γ Δ : Context} {e τ : Term}

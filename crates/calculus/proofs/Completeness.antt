@@ -33,20 +33,20 @@ answers p star (t_ax w) h = own p (t_ax w) h
 answers p (app f u) (t_app {τ₂ = a} df du) h =
     rw (answers (first_part p) f df (part_fits Part.function h), answers (second_part p f) u du (part_fits Part.argument h), equal a)
     (own p (t_app df du) h)
-answers p (lam a e) (t_lam de dp) h =
+answers {Γ = Γ} p (lam a e) (t_lam de dp) h =
     let da = annotated (well_formed de) in
-    rw (answers (first_part p) a da (part_fits Part.lam_annotation h), equal star, answers (second_part p a) e de (part_fits Part.lam_body h))
+    rw (answers (first_part p) a da (part_fits Part.lam_annotation h), equal star, answers {Γ = a ∷ Γ} (second_part p a) e de (part_fits Part.lam_body h))
     (own p (t_lam de dp) h)
-answers p (pi a b) (t_pi da db) h =
-    rw (answers (first_part p) a da (part_fits Part.domain h), equal star, answers (second_part p a) b db (part_fits Part.codomain h), equal star)
+answers {Γ = Γ} p (pi a b) (t_pi da db) h =
+    rw (answers (first_part p) a da (part_fits Part.domain h), equal star, answers {Γ = a ∷ Γ} (second_part p a) b db (part_fits Part.codomain h), equal star)
     (own p (t_pi da db) h)
 answers p (castup a e) (t_castup {τ₂ = a'} de da s) h =
     rw (answers (first_part p) a da (part_fits Part.castup_annotation h), equal star, answers (second_part p a) e de (part_fits Part.castup_body h), steps p s, fitting p a' (h a' (stepped_annotation s)), equal a')
     (own p (t_castup de da s) h)
 answers p (castdown e) (t_castdown de ds s) h =
     rw (answers (first_part p) e de (part_fits Part.castdown_body h), steps p s) (own p (t_castdown de ds s) h)
-answers p (mu a e) (t_mu de da) h =
-    rw (answers (first_part p) a da (part_fits Part.mu_annotation h), equal star, answers (second_part p a) e de (part_fits Part.mu_body h), equal (raise 1 0 a))
+answers {Γ = Γ} p (mu a e) (t_mu de da) h =
+    rw (answers (first_part p) a da (part_fits Part.mu_annotation h), equal star, answers {Γ = a ∷ Γ} (second_part p a) e de (part_fits Part.mu_body h), equal (raise 1 0 a))
     (own p (t_mu de da) h)
 answers p (name i) (t_name w k) h = rw k (own p (t_name w k) h)
 

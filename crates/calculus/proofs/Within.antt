@@ -39,12 +39,14 @@ star_within {B} {v} {L} {Γ} w h = record { typed = t_ax w; fits = fit }
   where
     fit : Fits B v L Γ star
     fit σ (its_type d) = its_type_fits (t_ax w) h d
+    fit σ (at_part part _) = elim part [ ]
 
 pub var_within : {B : Book} {v : View} {L : ℕ} {Γ : Context} {i : ℕ} {τ : Term} → WellFormed B v Γ → Γ ∋ i ⦂ τ → size τ ≤ L → B ∣ v ∣ Γ ⊢⟨ L ⟩ var i ⦂ τ
 var_within {B} {v} {L} {Γ} {i} w x h = record { typed = t_var w x; fits = fit }
   where
     fit : Fits B v L Γ (var i)
     fit σ (its_type d) = its_type_fits (t_var w x) h d
+    fit σ (at_part part _) = elim part [ ]
 
 pub app_within : {B : Book} {v : View} {L : ℕ} {Γ : Context} {f u a b : Term}
     → B ∣ v ∣ Γ ⊢⟨ L ⟩ f ⦂ pi a b
@@ -141,3 +143,4 @@ name_within {B} {v} {L} {Γ} {i} w k h = record { typed = t_name w k; fits = fit
   where
     fit : Fits B v L Γ (name i)
     fit σ (its_type d) = its_type_fits (t_name w k) h d
+    fit σ (at_part part _) = elim part [ ]

@@ -1,4 +1,6 @@
 // Terms in words (document 01, Words): what a word means, the walk over a subterm, reading, and the part lookup.
+#![tactic(auto)]
+
 ghost use Rattle.std.specs.Prelude.{◌≡◌};
 ghost use Rattle.calculus.specs.Outcomes.{found, part};
 ghost use Rattle.term.specs.Found.{found_of, words_behind};
