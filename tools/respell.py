@@ -18,6 +18,8 @@ DECLARED = re.compile(
     rf"(?m)^ *(?:(?:abbrev|unfoldable|pub|mutual|opaque|data|record|ruleset|module|mod|where|let|in) +)*({WORD})(?=(?: *(?:\{{[^{{}}\n]*\}}|\([^()\n]*\)))* (?::(?! *tie\.Need-|\S)|=(?!\S)|where|deriving))"
 )
 FIELD = re.compile(rf"(?m)(?:record \{{|^|;)\s*(?:pub )?({WORD}) : ")
+# Constructors or fields of one type, in a line.
+LISTED = re.compile(rf"(?m)^ +((?:{WORD} )+{WORD}) : (?=[A-Z])")
 USE = re.compile(r"(?m)\buse ([^\s;{]+)(?:\{([^}]*)\})?")
 CLAUSE = re.compile(r"ghost\s+use\b[^;]*;|(?:requires|ensures)\s*\*?\s*(?:\w+\s*)?\{|ghost\s+\w+\s*:?\s*\{|ghost\s*\{")
 # Made by `deriving`, and words that hold no name of a definition.
@@ -58,13 +60,15 @@ def blocks(text):
 
 
 def declared(root):
-    names, goals = set(), set()
+    names, goals, lemmas = set(), set(), set()
     for path in files(root, ".antt"):
         text = QUIET.sub(" ", path.read_text())
+        lemmas |= set(DECLARED.findall(text)) if "Proof" not in path.parts and path.name != "Proof.antt" else set()
         goals.update(re.findall(rf"(?m)^ *(?:pub )?({WORD}) : (?:tie|goal)\.", text))
         names.update(DECLARED.findall(text))
         names.update(FIELD.findall(text))
-    return {n for n in names if turned(n) != n and "◌" not in n} - MADE, goals
+        names.update(name for line in LISTED.findall(text) if "=" not in line for name in line.split())
+    return {n for n in names if turned(n) != n and "◌" not in n} - MADE, goals - lemmas
 
 
 def theirs(code):

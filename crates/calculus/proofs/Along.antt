@@ -8,7 +8,7 @@ use Rattle.calculus.specs.Term.{Term, star, pi}
 use Rattle.calculus.specs.Book.{Book, View, types, bodies}
 use Rattle.calculus.specs.Rules.{◌⊩◌⟶◌, Context, ◌∋◌⦂◌, WellFormed, env_var, ◌∣◌∣◌⊢◌⦂◌, t_ax, t_var, t_app, t_lam, t_pi, t_castup, t_castdown, t_mu, t_name}
 use Rattle.calculus.proofs.Parallel.{traverse, lift, sub}
-use Rattle.calculus.proofs.Bridge.{sub-raise, sub_substitute}
+use Rattle.calculus.proofs.Bridge.{sub_raise, sub_substitute}
 use Rattle.calculus.proofs.Scoping.{Shut, sub_closed}
 use Rattle.calculus.proofs.Reduction.{step_sub}
 
@@ -59,7 +59,7 @@ module _ {B : Book} (C : Closed B) {P : (ℕ → Term) → Context → Context �
   along_at {σ = σ} q p w (t_mu e a) =
       let a' = along_at q p w a in
       let w' = env_var w a' in
-      t_mu (rw sub-raise at (along_at {σ = lift σ} q (c.under_binder p w') w' e)) a'
+      t_mu (rw sub_raise at (along_at {σ = lift σ} q (c.under_binder p w') w' e)) a'
   along_at {σ = σ} q p w (t_name {i = i} {τ = τ} _ h) = rw (sub_closed σ τ (C.shut_types i τ h)) (t_name w h)
 
   pub along : {σ : ℕ → Term} {Γ Δ : Context} {e τ : Term}

@@ -12,7 +12,7 @@ use lib.Dec.{T}
 use Rattle.calculus.specs.Term.{Term, var, star, app, lam, pi, castup, castdown, mu}
 use Rattle.calculus.specs.Answer.{Reason}
 use Rattle.calculus.specs.Words.{emit, first_part, second_part, levels, Scoped, Named}
-use Rattle.calculus.specs.Meaning.{Meaning, a_star, a-castdown, an-app, a-castup, a-lam, a-pi, a-mu, a_variable, a_name, nothing, meaning, binds}
+use Rattle.calculus.specs.Meaning.{Meaning, a_star, a_castdown, an_app, a_castup, a_lam, a_pi, a_mu, a_variable, a_name, nothing, meaning, binds}
 use Rattle.calculus.specs.Reading.{Begins, Unread, no_word, meaningless, unnamed, too_deep, outside, in_first, in_second}
 use Rattle.calculus.specs.Scan.{means}
 use Rattle.calculus.proofs.Meanings.{word, the_word, sorted}
@@ -33,7 +33,7 @@ module _ (room binders p w : ℕ) (ws : List ℕ) (below : (b q : ℕ) (vs : Lis
       inl (t, ws, record { written = sym (written ws); within = omega (arith, deep); scoped = scoped; named = named })
 
   -- a down cast has one part,
-  one_part : meaning w ≡ a-castdown → Told (suc room) binders p (w ∷ ws)
+  one_part : meaning w ≡ a_castdown → Told (suc room) binders p (w ∷ ws)
   unfolding emit levels Scoped Named means word binds
   one_part h = first (below (binders + 0) (first_part p) ws)
     where
@@ -90,12 +90,12 @@ module _ (room binders p w : ℕ) (ws : List ℕ) (below : (b q : ℕ) (vs : Lis
   told_word : (m : Meaning) → meaning w ≡ m → Told (suc room) binders p (w ∷ ws)
   unfolding means word binds emit levels Scoped Named
   told_word a_star h = no_part star (λ rest. ap (λ v. v ∷ rest) (the_word w h tt)) refl tt tt
-  told_word a-castdown h = one_part h
-  told_word an-app h = two_parts an-app app 0 h tt refl (λ a e k. refl) (λ a e. refl) (λ a e i j. (i, rw add-zero at j)) (λ a e i j. (i, j))
-  told_word a-castup h = two_parts a-castup castup 0 h tt refl (λ a e k. refl) (λ a e. refl) (λ a e i j. (i, rw add-zero at j)) (λ a e i j. (i, j))
-  told_word a-lam h = two_parts a-lam lam 1 h tt refl (λ a e k. refl) (λ a e. refl) (λ a e i j. (i, rw add-one at j)) (λ a e i j. (i, j))
-  told_word a-pi h = two_parts a-pi pi 1 h tt refl (λ a e k. refl) (λ a e. refl) (λ a e i j. (i, rw add-one at j)) (λ a e i j. (i, j))
-  told_word a-mu h = two_parts a-mu mu 1 h tt refl (λ a e k. refl) (λ a e. refl) (λ a e i j. (i, rw add-one at j)) (λ a e i j. (i, j))
+  told_word a_castdown h = one_part h
+  told_word an_app h = two_parts an_app app 0 h tt refl (λ a e k. refl) (λ a e. refl) (λ a e i j. (i, rw add-zero at j)) (λ a e i j. (i, j))
+  told_word a_castup h = two_parts a_castup castup 0 h tt refl (λ a e k. refl) (λ a e. refl) (λ a e i j. (i, rw add-zero at j)) (λ a e i j. (i, j))
+  told_word a_lam h = two_parts a_lam lam 1 h tt refl (λ a e k. refl) (λ a e. refl) (λ a e i j. (i, rw add-one at j)) (λ a e i j. (i, j))
+  told_word a_pi h = two_parts a_pi pi 1 h tt refl (λ a e k. refl) (λ a e. refl) (λ a e i j. (i, rw add-one at j)) (λ a e i j. (i, j))
+  told_word a_mu h = two_parts a_mu mu 1 h tt refl (λ a e k. refl) (λ a e. refl) (λ a e i j. (i, rw add-one at j)) (λ a e i j. (i, j))
   told_word (a_variable i) h = on (dec_le (suc i) binders)
     where
       on : Dec (i < binders) → Told (suc room) binders p (w ∷ ws)

@@ -119,8 +119,8 @@ pub substitute_raise : (s t : Term) → substitute 0 s (raise 1 0 t) ≡ t
 substitute_raise s t = ap (substitute 0 s) (raise_moves t) ∙ substitute_is_sub s (rename suc t) ∙ single_moved s t
 
 -- A substitution goes through `raise`,
-pub sub-raise : (σ : ℕ → Term) (t : Term) → sub (lift σ) (raise 1 0 t) ≡ raise 1 0 (sub σ t)
-sub-raise σ t = ap (sub (lift σ)) (raise_moves t) ∙ sub_moved σ t ∙ sym (raise_moves (sub σ t))
+pub sub_raise : (σ : ℕ → Term) (t : Term) → sub (lift σ) (raise 1 0 t) ≡ raise 1 0 (sub σ t)
+sub_raise σ t = ap (sub (lift σ)) (raise_moves t) ∙ sub_moved σ t ∙ sym (raise_moves (sub σ t))
 
 -- and through `substitute`.
 pub sub_substitute : (σ : ℕ → Term) (s t : Term) → sub σ (substitute 0 s t) ≡ substitute 0 (sub σ s) (sub (lift σ) t)

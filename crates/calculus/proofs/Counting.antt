@@ -7,27 +7,27 @@ use native.Mathlib.Omega.{arith}
 use Rattle.calculus.specs.Term.{Term}
 use Rattle.calculus.specs.Book.{View}
 use Rattle.calculus.specs.Rules.{◌⊩◌⟶◌}
-use Rattle.calculus.specs.Kinds.{Kind, by-substitution, by-unfolding, by-cancellation, kind, Counts, counts, counting, total, Counted, counted_none, counted_more}
+use Rattle.calculus.specs.Kinds.{Kind, by_substitution, by_unfolding, by_cancellation, kind, Counts, counts, counting, total, Counted, counted_none, counted_more}
 use Rattle.calculus.specs.Run.{State, state_zero, state_suc}
 use Rattle.calculus.specs.Runs.{CountsOfStates}
 
 pub total_counting : (k : Kind) (c : Counts) → total (counting k c) ≡ suc (total c)
 unfolding total counting
-total_counting by-substitution c = omega arith
-total_counting by-unfolding c = omega arith
-total_counting by-cancellation c = omega arith
+total_counting by_substitution c = omega arith
+total_counting by_unfolding c = omega arith
+total_counting by_cancellation c = omega arith
 
 swap : (j k : Kind) (c : Counts) → counting j (counting k c) ≡ counting k (counting j c)
 unfolding counting
-swap by-substitution by-substitution c = refl
-swap by-substitution by-unfolding c = refl
-swap by-substitution by-cancellation c = refl
-swap by-unfolding by-substitution c = refl
-swap by-unfolding by-unfolding c = refl
-swap by-unfolding by-cancellation c = refl
-swap by-cancellation by-substitution c = refl
-swap by-cancellation by-unfolding c = refl
-swap by-cancellation by-cancellation c = refl
+swap by_substitution by_substitution c = refl
+swap by_substitution by_unfolding c = refl
+swap by_substitution by_cancellation c = refl
+swap by_unfolding by_substitution c = refl
+swap by_unfolding by_unfolding c = refl
+swap by_unfolding by_cancellation c = refl
+swap by_cancellation by_substitution c = refl
+swap by_cancellation by_unfolding c = refl
+swap by_cancellation by_cancellation c = refl
 
 -- A first step before a state,
 pub counted_after : {v : View} {t t' : Term} {c : Counts} {x : Term} (s : v ⊩ t ⟶ t') → Counted v t' c x → Counted v t (counting (kind s) c) x

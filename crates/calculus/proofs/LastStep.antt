@@ -9,7 +9,7 @@ use native.Mathlib.Nat.{suc_inj}
 use native.Mathlib.Omega.{arith}
 use Rattle.calculus.specs.Term.{Term}
 use Rattle.calculus.specs.Book.{Book, View, bodies}
-use Rattle.calculus.specs.Run.{End, spent, at_value, at-stuck, too_long, Ends, ends_value, ends_stuck, ends_spent, ends_long}
+use Rattle.calculus.specs.Run.{End, spent, at_value, at_stuck, too_long, Ends, ends_value, ends_stuck, ends_spent, ends_long}
 use Rattle.calculus.specs.Outcomes.{grant, Ran, run_over}
 use Rattle.calculus.specs.Runs.{Runs, caller_refused, work_refused, state_refused, unread, ended}
 use Rattle.calculus.specs.Earlier as earlier
@@ -93,9 +93,9 @@ had {v} {g} {n} {x} (ends_value h u) = on (dec_le g n)
     on (no l) = (at_value, earlier.ends_value (omega arith) u, as_before {E = at_value} (omega arith) (λ e. absurd (true≢false (cc e))))
 had {v} {g} {n} {x} (ends_stuck h u s) = on (dec_le g n)
   where
-    on : Dec (g ≤ n) → Had v g n x at-stuck
+    on : Dec (g ≤ n) → Had v g n x at_stuck
     on (yes l) = (spent, earlier.ends_spent (omega arith), now_stuck (omega arith) u s)
-    on (no l) = (at-stuck, earlier.ends_stuck (omega arith) u s, as_before {E = at-stuck} (omega arith) (λ e. absurd (true≢false (cc e))))
+    on (no l) = (at_stuck, earlier.ends_stuck (omega arith) u s, as_before {E = at_stuck} (omega arith) (λ e. absurd (true≢false (cc e))))
 had (ends_spent e s) = (spent, earlier.ends_spent e, still_spent e s)
 had (ends_long h s l) = (too_long, earlier.ends_long h s l, as_before {E = too_long} h (λ e. absurd (true≢false (cc e))))
 

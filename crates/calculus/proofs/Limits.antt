@@ -9,7 +9,7 @@ use native.Mathlib.Nat.{le_refl, le_trans}
 use native.Mathlib.Omega.{arith}
 use lib.Dec.{lit≤}
 use Rattle.calculus.specs.Term.{Term, var, star, app, lam, pi, castup, castdown, mu, name, size, raise, substitute}
-use Rattle.calculus.specs.Answer.{Reason, Answer, ok, refused, ◌>>=◌, ◌>>◌, require, number, not_star, wrong-argument, wrong-cast, wrong-recursion, over_limit}
+use Rattle.calculus.specs.Answer.{Reason, Answer, ok, refused, ◌>>=◌, ◌>>◌, require, number, not_star, wrong_argument, wrong_cast, wrong_recursion, over_limit}
 use Rattle.calculus.specs.Words.{first_part, second_part}
 use Rattle.calculus.specs.Book.{View}
 use Rattle.calculus.specs.Rules.{Context}
@@ -99,7 +99,7 @@ module _ (T : View) (step : Term → Next) {L L' n : ℕ} (more : L ≤ L') wher
       then (infer_keeps Γ (first_part p) f (omega arith)) λ τ.
       then (a_product p (omega arith) τ) λ (a, b).
       then (infer_keeps Γ (second_part p f) u (omega arith)) λ σ.
-      then (equal p (omega arith) wrong-argument (lit≤ tt) (lit≤ tt) σ a) λ _.
+      then (equal p (omega arith) wrong_argument (lit≤ tt) (lit≤ tt) σ a) λ _.
       fits p (omega arith) more (substitute 0 u b)
   infer_keeps Γ p (lam a e) h =
       then (infer_keeps Γ (first_part p) a (omega arith)) λ σ.
@@ -118,7 +118,7 @@ module _ (T : View) (step : Term → Next) {L L' n : ℕ} (more : L ≤ L') wher
       then (infer_keeps Γ (second_part p a) e (omega arith)) λ τ.
       then (steps p (omega arith) (step a)) λ a'.
       then (fits p (omega arith) more a') λ _.
-      then (equal p (omega arith) wrong-cast (lit≤ tt) (lit≤ tt) a' τ) λ _.
+      then (equal p (omega arith) wrong_cast (lit≤ tt) (lit≤ tt) a' τ) λ _.
       fits p (omega arith) more a
   infer_keeps Γ p (castdown e) h =
       then (infer_keeps Γ (first_part p) e (omega arith)) λ τ.
@@ -128,7 +128,7 @@ module _ (T : View) (step : Term → Next) {L L' n : ℕ} (more : L ≤ L') wher
       then (infer_keeps Γ (first_part p) a (omega arith)) λ σ.
       then (equal (first_part p) (omega arith) not_star (lit≤ tt) (lit≤ tt) σ star) λ _.
       then (infer_keeps (a ∷ Γ) (second_part p a) e (omega arith)) λ τ.
-      then (equal p (omega arith) wrong-recursion (lit≤ tt) (lit≤ tt) τ (raise 1 0 a)) λ _.
+      then (equal p (omega arith) wrong_recursion (lit≤ tt) (lit≤ tt) τ (raise 1 0 a)) λ _.
       fits p (omega arith) more a
   infer_keeps Γ p (name i) h = fits p (omega arith) more (stored (T i))
 

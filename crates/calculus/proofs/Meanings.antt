@@ -10,19 +10,19 @@ use native.Mathlib.Nat.{add-sub_cancel_left, add-sub_of_le, add-zero, zero-add}
 use native.Mathlib.Omega.{arith}
 use lib.Dec.{T, ltb, nltb→le}
 use lib.ListN.{length, get_or, get_or-eq_default}
-use Rattle.calculus.specs.Meaning.{Meaning, a_star, a-castdown, an-app, a-castup, a-lam, a-pi, a-mu, a_variable, a_name, nothing, meaning, binds, PartsByFormula}
+use Rattle.calculus.specs.Meaning.{Meaning, a_star, a_castdown, an_app, a_castup, a_lam, a_pi, a_mu, a_variable, a_name, nothing, meaning, binds, PartsByFormula}
 use Rattle.calculus.specs.Scan.{means}
 use Rattle.calculus.proofs.Comparisons.{le_leb, gt_leb}
 
 -- Document 01's table, from meanings to words; of the words that mean nothing, the least.
 unfoldable pub word : Meaning → ℕ
 word a_star = 0
-word a-castdown = 1
-word an-app = 2
-word a-castup = 3
-word a-lam = 4
-word a-pi = 5
-word a-mu = 6
+word a_castdown = 1
+word an_app = 2
+word a_castup = 3
+word a_lam = 4
+word a_pi = 5
+word a_mu = 6
 word (a_variable i) = 16 + i
 word (a_name i) = 2048 + i
 word nothing = 7
@@ -30,12 +30,12 @@ word nothing = 7
 -- The index of a variable, and the number of a name, is one that has a word.
 unfoldable pub Indexed : Meaning → Type 0
 Indexed a_star = Unit
-Indexed a-castdown = Unit
-Indexed an-app = Unit
-Indexed a-castup = Unit
-Indexed a-lam = Unit
-Indexed a-pi = Unit
-Indexed a-mu = Unit
+Indexed a_castdown = Unit
+Indexed an_app = Unit
+Indexed a_castup = Unit
+Indexed a_lam = Unit
+Indexed a_pi = Unit
+Indexed a_mu = Unit
 Indexed (a_variable i) = i < 2032
 Indexed (a_name i) = i < 32
 Indexed nothing = Unit
@@ -43,12 +43,12 @@ Indexed nothing = Unit
 pub meaning_word : (m : Meaning) → Indexed m → meaning (word m) ≡ m
 unfolding meaning word Indexed
 meaning_word a_star h = refl
-meaning_word a-castdown h = refl
-meaning_word an-app h = refl
-meaning_word a-castup h = refl
-meaning_word a-lam h = refl
-meaning_word a-pi h = refl
-meaning_word a-mu h = refl
+meaning_word a_castdown h = refl
+meaning_word an_app h = refl
+meaning_word a_castup h = refl
+meaning_word a_lam h = refl
+meaning_word a_pi h = refl
+meaning_word a_mu h = refl
 meaning_word (a_variable i) h =
     rw (gt_leb (suc (16 + i)) 16 (omega arith), le_leb (suc (16 + i)) 2048 (omega arith), add-sub_cancel_left 16 i) refl
 meaning_word (a_name i) h =
@@ -63,7 +63,7 @@ meaning_word nothing h = refl
 
 -- The meanings of words 0–6, in the order of the words.
 abbrev pub nodes : List Meaning
-nodes = a_star ∷ a-castdown ∷ an-app ∷ a-castup ∷ a-lam ∷ a-pi ∷ a-mu ∷ []
+nodes = a_star ∷ a_castdown ∷ an_app ∷ a_castup ∷ a_lam ∷ a_pi ∷ a_mu ∷ []
 
 -- The word of each member of `ms` is its place, counted from `n`.
 InOrder : ℕ → List Meaning → Type 0
@@ -99,12 +99,12 @@ the_word w e t = ap word (sym e) ∙ word_meaning w (rw e t)
 pub sorted : (m : Meaning) → (m ≡ nothing) ⊎ ((i : ℕ) × (m ≡ a_name i)) ⊎ T (means m)
 unfolding means
 sorted a_star = inr (inr tt)
-sorted a-castdown = inr (inr tt)
-sorted an-app = inr (inr tt)
-sorted a-castup = inr (inr tt)
-sorted a-lam = inr (inr tt)
-sorted a-pi = inr (inr tt)
-sorted a-mu = inr (inr tt)
+sorted a_castdown = inr (inr tt)
+sorted an_app = inr (inr tt)
+sorted a_castup = inr (inr tt)
+sorted a_lam = inr (inr tt)
+sorted a_pi = inr (inr tt)
+sorted a_mu = inr (inr tt)
 sorted (a_variable i) = inr (inr tt)
 sorted (a_name i) = inr (inl (i, refl))
 sorted nothing = inl refl

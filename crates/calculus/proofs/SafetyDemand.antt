@@ -13,7 +13,7 @@ use Rattle.calculus.specs.Words.{words, Worded, Codes, longest}
 use Rattle.calculus.specs.Book.{Book, bodies}
 use Rattle.calculus.specs.Rules.{◌∣◌∣◌⊢◌⦂◌}
 use Rattle.calculus.specs.Growing.{GrownFrom, Grown}
-use Rattle.calculus.specs.Run.{State, state_zero, state_suc, End, at-stuck, Ends, ends_value, ends_stuck, ends_spent, ends_long}
+use Rattle.calculus.specs.Run.{State, state_zero, state_suc, End, at_stuck, Ends, ends_value, ends_stuck, ends_spent, ends_long}
 use Rattle.calculus.specs.Outcomes.{check_over, Desk, grant, Ran, run_over}
 use Rattle.calculus.specs.Runs.{Runs, caller_refused, work_refused, state_refused, unread, ended}
 use Rattle.calculus.specs.Safety.{Only, Safe, Safely, caller_refused as caller-refused', work_refused as work-refused', state_refused as state-refused', ended as ended', SafeRun, Demand3}
@@ -41,7 +41,7 @@ module _ (C : Book) (S : Sound C) where
         progress = typed_next C d;
       }
 
-  not_stuck : {g n : ℕ} {x τ : Term} {E : End} → C ∣ bodies C ∣ [] ⊢ x ⦂ τ → Ends (bodies C) g n x E → E ≢ at-stuck
+  not_stuck : {g n : ℕ} {x τ : Term} {E : End} → C ∣ bodies C ∣ [] ⊢ x ⦂ τ → Ends (bodies C) g n x E → E ≢ at_stuck
   not_stuck d (ends_value h v) e = absurd (true≢false (cc e))
   not_stuck {x = x} d (ends_stuck h v s) e = ⊎_elim v s (progress C x d)
   not_stuck d (ends_spent h s) e = absurd (true≢false (cc e))

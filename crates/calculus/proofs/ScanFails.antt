@@ -11,7 +11,7 @@ use lib.Dec.{T, leb}
 use Rattle.calculus.specs.Term.{Term}
 use Rattle.calculus.specs.Words.{first_part, second_part}
 use Rattle.calculus.specs.Answer.{Reason, unbound, Answer, ok, refused, ◌>>=◌, ◌>>◌, require}
-use Rattle.calculus.specs.Meaning.{Meaning, a_star, a-castdown, an-app, a-castup, a-lam, a-pi, a-mu, a_variable, a_name, nothing, meaning, binds}
+use Rattle.calculus.specs.Meaning.{Meaning, a_star, a_castdown, an_app, a_castup, a_lam, a_pi, a_mu, a_variable, a_name, nothing, meaning, binds}
 use Rattle.calculus.specs.Reading.{Begins, Unread, no_word, meaningless, unnamed, too_deep, outside, in_first, in_second}
 use Rattle.calculus.specs.Scan.{means, bound, test, node, Pending, below, scan}
 use Rattle.calculus.proofs.Comparisons.{passed, le_leb, gt_leb}
@@ -26,12 +26,12 @@ OneEach (k ∷ ks) = (k ≤ 1) × OneEach ks
 binds_one : (m : Meaning) → OneEach (binds m)
 unfolding OneEach binds
 binds_one a_star = tt
-binds_one a-castdown = (zero-le, tt)
-binds_one an-app = (zero-le, (zero-le, tt))
-binds_one a-castup = (zero-le, (zero-le, tt))
-binds_one a-lam = (zero-le, (le_refl 1, tt))
-binds_one a-pi = (zero-le, (le_refl 1, tt))
-binds_one a-mu = (zero-le, (le_refl 1, tt))
+binds_one a_castdown = (zero-le, tt)
+binds_one an_app = (zero-le, (zero-le, tt))
+binds_one a_castup = (zero-le, (zero-le, tt))
+binds_one a_lam = (zero-le, (le_refl 1, tt))
+binds_one a_pi = (zero-le, (le_refl 1, tt))
+binds_one a_mu = (zero-le, (le_refl 1, tt))
 binds_one (a_variable i) = tt
 binds_one (a_name i) = tt
 binds_one nothing = tt
@@ -48,12 +48,12 @@ meant m n k = on (sorted m)
 parted : (m : Meaning) (b : ℕ) {k : ℕ} {ks : List ℕ} → binds m ≡ k ∷ ks → (means m ≡ true) × (bound m b ≡ true)
 unfolding binds means bound
 parted a_star b e = absurd (true≢false (cc e))
-parted a-castdown b e = (refl, refl)
-parted an-app b e = (refl, refl)
-parted a-castup b e = (refl, refl)
-parted a-lam b e = (refl, refl)
-parted a-pi b e = (refl, refl)
-parted a-mu b e = (refl, refl)
+parted a_castdown b e = (refl, refl)
+parted an_app b e = (refl, refl)
+parted a_castup b e = (refl, refl)
+parted a_lam b e = (refl, refl)
+parted a_pi b e = (refl, refl)
+parted a_mu b e = (refl, refl)
 parted (a_variable i) b e = absurd (true≢false (cc e))
 parted (a_name i) b e = absurd (true≢false (cc e))
 parted nothing b e = absurd (true≢false (cc e))

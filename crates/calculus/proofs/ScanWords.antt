@@ -11,7 +11,7 @@ use lib.Dec.{T, lt→ltb}
 use Rattle.calculus.specs.Term.{Term, var, star, app, lam, pi, castup, castdown, mu, name, size}
 use Rattle.calculus.specs.Words.{emit, levels, Scoped, Named}
 use Rattle.calculus.specs.Answer.{Answer, ok, refused, ◌>>=◌, ◌>>◌, require}
-use Rattle.calculus.specs.Meaning.{Meaning, a_star, a-castdown, an-app, a-castup, a-lam, a-pi, a-mu, a_variable, binds}
+use Rattle.calculus.specs.Meaning.{Meaning, a_star, a_castdown, an_app, a_castup, a_lam, a_pi, a_mu, a_variable, binds}
 use Rattle.calculus.specs.Scan.{means, bound, test, node, node₁, node₂, Pending, below, scan}
 use Rattle.calculus.proofs.Comparisons.{passed, le_leb}
 use Rattle.calculus.proofs.Meanings.{word, Indexed, meaning_word}
@@ -119,20 +119,20 @@ scan_term (var i) s h known k ss p =
     rw add-one (scan_word (a_variable i) s (omega (arith, h.scoped)) tt h.within (lt→ltb i s.binders h.scoped) k ss p)
 scan_term star s h known k ss p = rw add-one (scan_word a_star s tt tt h.within tt k ss p)
 scan_term (app f u) s h known k ss p =
-    scan_word an-app s tt tt h.within tt (emit f (emit u k)) ss p
+    scan_word an_app s tt tt h.within tt (emit f (emit u k)) ss p
     ∙ two_parts app s 0 f u (scan_term f) (scan_term u) zero-le h.scoped.0 (rw add-zero h.scoped.1) h.named.0 h.named.1 h.within known k ss p
 scan_term (lam a e) s h known k ss p =
-    scan_word a-lam s tt tt h.within tt (emit a (emit e k)) ss p
+    scan_word a_lam s tt tt h.within tt (emit a (emit e k)) ss p
     ∙ two_parts lam s 1 a e (scan_term a) (scan_term e) (le_refl 1) h.scoped.0 (rw add-one h.scoped.1) h.named.0 h.named.1 h.within known k ss p
 scan_term (pi a b) s h known k ss p =
-    scan_word a-pi s tt tt h.within tt (emit a (emit b k)) ss p
+    scan_word a_pi s tt tt h.within tt (emit a (emit b k)) ss p
     ∙ two_parts pi s 1 a b (scan_term a) (scan_term b) (le_refl 1) h.scoped.0 (rw add-one h.scoped.1) h.named.0 h.named.1 h.within known k ss p
 scan_term (castup a e) s h known k ss p =
-    scan_word a-castup s tt tt h.within tt (emit a (emit e k)) ss p
+    scan_word a_castup s tt tt h.within tt (emit a (emit e k)) ss p
     ∙ two_parts castup s 0 a e (scan_term a) (scan_term e) zero-le h.scoped.0 (rw add-zero h.scoped.1) h.named.0 h.named.1 h.within known k ss p
 scan_term (castdown e) s h known k ss p =
-    scan_word a-castdown s tt tt h.within tt (emit e k) ss p ∙ one_part s e (scan_term e) h.scoped h.named h.within known k ss p
+    scan_word a_castdown s tt tt h.within tt (emit e k) ss p ∙ one_part s e (scan_term e) h.scoped h.named h.within known k ss p
 scan_term (mu a e) s h known k ss p =
-    scan_word a-mu s tt tt h.within tt (emit a (emit e k)) ss p
+    scan_word a_mu s tt tt h.within tt (emit a (emit e k)) ss p
     ∙ two_parts mu s 1 a e (scan_term a) (scan_term e) (le_refl 1) h.scoped.0 (rw add-one h.scoped.1) h.named.0 h.named.1 h.within known k ss p
 scan_term (name i) s h known k ss p = absurd (omega (arith, h.named))

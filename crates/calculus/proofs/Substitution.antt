@@ -7,7 +7,7 @@ use Rattle.calculus.specs.Words.{Scoped}
 use Rattle.calculus.specs.Book.{Book, bodies}
 use Rattle.calculus.specs.Rules.{Context, ◌∋◌⦂◌, here, there, WellFormed, ◌∣◌∣◌⊢◌⦂◌, t_var}
 use Rattle.calculus.proofs.Parallel.{lift, sub}
-use Rattle.calculus.proofs.Bridge.{raise_moves, sub-raise, single, substitute_is_sub, substitute_raise}
+use Rattle.calculus.proofs.Bridge.{raise_moves, sub_raise, single, substitute_is_sub, substitute_raise}
 use Rattle.calculus.proofs.Scoping.{sub_closed}
 use Rattle.calculus.proofs.Along.{Closed, Carries, along}
 use Rattle.calculus.proofs.Thinning.{thinning, well_formed}
@@ -22,8 +22,8 @@ module _ {B : Book} (C : Closed B) where
       → WellFormed B (bodies B) (sub σ a ∷ Δ)
       → WellTyped (lift σ) (a ∷ Γ) (sub σ a ∷ Δ)
   unfolding lift
-  well_typed_under {σ} p w i t (here {τ = τ}) = rw (sub-raise σ τ) (t_var w here)
-  well_typed_under {σ} p w i t (there {τ = τ} {i = k} x) = rw (sub-raise σ τ, ← raise_moves (σ k)) (thinning C (p k τ x) w)
+  well_typed_under {σ} p w i t (here {τ = τ}) = rw (sub_raise σ τ) (t_var w here)
+  well_typed_under {σ} p w i t (there {τ = τ} {i = k} x) = rw (sub_raise σ τ, ← raise_moves (σ k)) (thinning C (p k τ x) w)
 
   substitution_along : {σ : ℕ → Term} {Γ Δ : Context} {e τ : Term}
       → B ∣ bodies B ∣ Γ ⊢ e ⦂ τ

@@ -16,7 +16,7 @@ use Rattle.calculus.specs.Book.{view, bodies, seen}
 use Rattle.calculus.specs.Book as book
 use Rattle.calculus.specs.Rules.{◌⊩◌⟶◌, env_empty}
 use Rattle.calculus.specs.Growing.{nothing_added}
-use Rattle.calculus.specs.Kinds.{Kind, by-substitution, by-unfolding, by-cancellation, kind, Counts, counts, counting, total, Counted, counted_none, counted_more}
+use Rattle.calculus.specs.Kinds.{Kind, by_substitution, by_unfolding, by_cancellation, kind, Counts, counts, counting, total, Counted, counted_none, counted_more}
 use Rattle.calculus.specs.Step.{Next, value, stuck, next, under, applied, cancelled, unfolded, step}
 use Rattle.calculus.specs.Infer.{annotation, stored, same, measure, product, stepped, infer}
 use Rattle.calculus.specs.Run.{State, state_zero, state_suc, End, spent, end_number, Ends, ends_spent, Ended, done, one_more, advance, last_end, run_until, run_from}
@@ -143,11 +143,11 @@ ends_by E n c out r h =
       same_words_equal (words r.state) out l,
     )
 
-is_unfolding : (k : Kind) → T (unfolds k) → k ≡ by-unfolding
+is_unfolding : (k : Kind) → T (unfolds k) → k ≡ by_unfolding
 unfolding unfolds same_counts counting
-is_unfolding by-substitution h = elim h [ ]
-is_unfolding by-unfolding h = refl
-is_unfolding by-cancellation h = elim h [ ]
+is_unfolding by_substitution h = elim h [ ]
+is_unfolding by_unfolding h = refl
+is_unfolding by_cancellation h = elim h [ ]
 
 -- What a row claims, from what the functions answer.
 types_claim : (ws : List ℕ) (L : ℕ) (out : List ℕ) {t τ : Term}
@@ -196,7 +196,7 @@ ends_claim ws budget E n c out {t} {x} e k o =
     )
 
 -- A term that unfolds to itself is each of its states, so every run of it is spent, in unfoldings.
-module _ {t : Term} (s : bodies [] ⊩ t ⟶ t) (u : kind s ≡ by-unfolding) where
+module _ {t : Term} (s : bodies [] ⊩ t ⟶ t) (u : kind s ≡ by_unfolding) where
   spinning : (k : ℕ) → State (bodies []) t k t
   spinning zero = state_zero
   spinning (suc k) = state_suc (spinning k) s

@@ -7,7 +7,7 @@ use Rattle.calculus.specs.Term.{Term, var, raise}
 use Rattle.calculus.specs.Book.{Book, View, bodies}
 use Rattle.calculus.specs.Rules.{Context, ◌∋◌⦂◌, here, there, WellFormed, env_var, ◌∣◌∣◌⊢◌⦂◌, t_ax, t_var, t_app, t_lam, t_pi, t_castup, t_castdown, t_mu, t_name}
 use Rattle.calculus.proofs.Parallel.{traverse, rename, lift, sub, rename_is_sub}
-use Rattle.calculus.proofs.Bridge.{raise_moves, sub-raise}
+use Rattle.calculus.proofs.Bridge.{raise_moves, sub_raise}
 use Rattle.calculus.proofs.Along.{Closed, Carries, along}
 
 -- A context without its innermost annotation.
@@ -38,10 +38,10 @@ variable_typed {i = i} {τ = τ} p w x = let (j, q, y) = p i τ x in rw q (t_var
 
 variables_under : {σ : ℕ → Term} {Γ Δ : Context} {a : Term} → ToVariables σ Γ Δ → ToVariables (lift σ) (a ∷ Γ) (sub σ a ∷ Δ)
 unfolding lift rename traverse
-variables_under {σ} p i t (here {τ = τ}) = (zero, refl, rw (sub-raise σ τ) here)
+variables_under {σ} p i t (here {τ = τ}) = (zero, refl, rw (sub_raise σ τ) here)
 variables_under {σ} {Δ = Δ} {a} p i t (there {τ = τ} {i = k} x) =
     let (j, q, y) = p k τ x in
-    (suc j, ap (rename suc) q, subst (λ b. (sub σ a ∷ Δ) ∋ suc j ⦂ b) (sym (sub-raise σ τ)) (there y))
+    (suc j, ap (rename suc) q, subst (λ b. (sub σ a ∷ Δ) ∋ suc j ⦂ b) (sym (sub_raise σ τ)) (there y))
 
 -- `ρ` takes the variables of Γ to variables of Δ that have the same types.
 abbrev Thins : (ℕ → ℕ) → Context → Context → Type 0

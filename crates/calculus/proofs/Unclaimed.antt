@@ -9,7 +9,7 @@ use native.Mathlib.Omega.{arith}
 use lib.Dec.{lit≤}
 use lib.ListN.{length}
 use Rattle.calculus.specs.Term.{Term, var, star, lam, pi, castdown, mu, name, size, raise, substitute}
-use Rattle.calculus.specs.Answer.{ok, ◌>>=◌, ◌>>◌, require, no_step, wrong-cast}
+use Rattle.calculus.specs.Answer.{ok, ◌>>=◌, ◌>>◌, require, no_step, wrong_cast}
 use Rattle.calculus.specs.Words.{Scoped, Named, Readable, levels}
 use Rattle.calculus.specs.Book.{Book, View, most, view, types, bodies, seen}
 use Rattle.calculus.specs.Rules.{Context, s_name, v_star, env_empty, ◌∣◌∣◌⊢◌⦂◌, t_ax, t_lam, t_castdown, t_mu, t_name}
@@ -114,7 +114,7 @@ unsound_changed : ¬ Sound changed
 unfolding infer ◌>>=◌ ◌>>◌ require measure product stepped stored same decide ℕ_discrete size substitute step unfolded types bodies view
 unsound_changed S = no_type fails (λ e. absurd (true≢false (cc e))) (S.types_typed 1 needs_0 refl)
   where
-    fails : Fails changed (bodies changed) largest_limit [] 0 needs_0 wrong-cast 4
+    fails : Fails changed (bodies changed) largest_limit [] 0 needs_0 wrong_cast 4
     fails = refused_sound S (λ i e h. h) env_empty scoped_1 (named_1 2 (omega arith)) refl
 
 pub not_grown : NotGrown

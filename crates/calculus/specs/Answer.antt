@@ -3,28 +3,28 @@ use Rattle.std.specs.Prelude.{ℕ, Bool, true, false, ◌≡◌}
 
 -- The reasons, in the order of their numbers in documents 01 and 02.
 pub data Reason : Type 0 where
-  limit-not-allowed work-short output-short length-not-allowed : Reason
-  no-meaning list-ends words-after level-65 unbound : Reason
-  not_star not_product wrong-argument no_step wrong-cast wrong-recursion over_limit : Reason
+  limit_not_allowed work_short output_short length_not_allowed : Reason
+  no_meaning list_ends words_after level_65 unbound : Reason
+  not_star not_product wrong_argument no_step wrong_cast wrong_recursion over_limit : Reason
   caller_not_allowed : Reason
 
 -- The number of each reason: document 01's, and 21 of document 02, 2.9.
 unfoldable pub number : Reason → ℕ
-number limit-not-allowed = 1
-number work-short = 2
-number output-short = 3
-number length-not-allowed = 4
-number no-meaning = 5
-number list-ends = 6
-number words-after = 7
-number level-65 = 8
+number limit_not_allowed = 1
+number work_short = 2
+number output_short = 3
+number length_not_allowed = 4
+number no_meaning = 5
+number list_ends = 6
+number words_after = 7
+number level_65 = 8
 number unbound = 9
 number not_star = 10
 number not_product = 11
-number wrong-argument = 12
+number wrong_argument = 12
 number no_step = 13
-number wrong-cast = 14
-number wrong-recursion = 15
+number wrong_cast = 14
+number wrong_recursion = 15
 number over_limit = 16
 number caller_not_allowed = 21
 

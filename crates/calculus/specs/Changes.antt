@@ -1,12 +1,12 @@
 -- WHAT CHANGED of the answers of earlier versions, and what stayed: of every call, on any words, numbers and slices.
 use Rattle.std.specs.Prelude.{ℕ, ◌≤◌, ◌<◌, cond, List, ◌≡◌, ◌↔◌, ◌≢◌, leb, length, set}
 use Rattle.calculus.specs.Term.{Term}
-use Rattle.calculus.specs.Answer.{ok, refused, Reason, number, work-short}
+use Rattle.calculus.specs.Answer.{ok, refused, Reason, number, work_short}
 use Rattle.calculus.specs.Words.{words, Codes}
 use Rattle.calculus.specs.Book.{Book, View, bodies}
 use Rattle.calculus.specs.Rules.{CanStep, Value}
 use Rattle.calculus.specs.Kinds.{Counts}
-use Rattle.calculus.specs.Run.{State, End, at_value, spent, at-stuck}
+use Rattle.calculus.specs.Run.{State, End, at_value, spent, at_stuck}
 use Rattle.calculus.specs.Outcomes.{check_room, run_room, begun, cleared, check_over, Desk, last_caller, allowance_of, grant, Ran, run_over}
 use Rattle.calculus.specs.Checks.{Allowed}
 use Rattle.calculus.specs.Earlier as earlier
@@ -15,7 +15,7 @@ use Rattle.calculus.specs.Earlier as earlier
 -- the end E is the end E'. "The answers that change are the runs whose state after the whole grant is a value or stuck."
 pub data Becomes (v : View) (g n : ℕ) (x : Term) : End → End → Type 0 where
   now_value : n ≡ g → Value x → Becomes v g n x spent at_value
-  now_stuck : n ≡ g → ¬ Value x → ¬ CanStep v x → Becomes v g n x spent at-stuck
+  now_stuck : n ≡ g → ¬ Value x → ¬ CanStep v x → Becomes v g n x spent at_stuck
   still_spent : n ≡ g → CanStep v x → Becomes v g n x spent spent
   as_before : {E : End} → n < g → E ≢ spent → Becomes v g n x E E
 
@@ -83,6 +83,6 @@ SameAsBefore = SameCheck × SameRun
 -- A working slice that is too short now is refused by 2, also where it was long enough.
 abbrev pub ShorterRefused : Type 0
 ShorterRefused = ((B : Book) (o : ℕ) (ws : List ℕ) (L : ℕ) (W O : List ℕ) → Allowed L → length W < check_room L
-    → check_over B o ws L W O ≡ record { answer = refused work-short 0; work = W; output = O })
+    → check_over B o ws L W O ≡ record { answer = refused work_short 0; work = W; output = O })
     × ((B : Book) (ws : List ℕ) (budget caller : ℕ) (desk : Desk) (W S : List ℕ) → caller ≤ last_caller → length W < run_room
-    → run_over B ws budget caller desk W S ≡ record { answer = refused work-short 0; desk = desk; work = W; state = S })
+    → run_over B ws budget caller desk W S ≡ record { answer = refused work_short 0; desk = desk; work = W; state = S })

@@ -1,7 +1,7 @@
 -- DEMAND 2 for checks: what a check answers and leaves in its slices, by the rules.
 use Rattle.std.specs.Prelude.{ℕ, ◌≤◌, ◌<◌, List, [], ◌≡◌, ◌↔◌, ◌≢◌, ◌⊎◌, length, take}
 use Rattle.calculus.specs.Term.{Term, size}
-use Rattle.calculus.specs.Answer.{ok, refused, Reason, number, limit-not-allowed, work-short, output-short, over_limit}
+use Rattle.calculus.specs.Answer.{ok, refused, Reason, number, limit_not_allowed, work_short, output_short, over_limit}
 use Rattle.calculus.specs.Words.{words, Readable, Codes}
 use Rattle.calculus.specs.Book.{Book, View, seen}
 use Rattle.calculus.specs.Reading.{Misread}
@@ -18,11 +18,11 @@ Allowed L = (1 ≤ L) × (L ≤ largest_limit)
 -- `Checks B o ws L W O c`: a check over the book B for the owner `o` of the words `ws` at the limit L, with the working slice W and the
 -- output slice O, leaves `c`: the first row of document 01's table that applies, and otherwise the type.
 pub data Checks (B : Book) (o : ℕ) (ws : List ℕ) (L : ℕ) (W O : List ℕ) : Checked → Type 0 where
-  limit_refused : ¬ Allowed L → Checks B o ws L W O (record { answer = refused limit-not-allowed 0; work = W; output = O })
+  limit_refused : ¬ Allowed L → Checks B o ws L W O (record { answer = refused limit_not_allowed 0; work = W; output = O })
   work_refused : Allowed L → length W < check_room L
-      → Checks B o ws L W O (record { answer = refused work-short 0; work = W; output = O })
+      → Checks B o ws L W O (record { answer = refused work_short 0; work = W; output = O })
   output_refused : Allowed L → check_room L ≤ length W → length O < L
-      → Checks B o ws L W O (record { answer = refused output-short 0; work = W; output = O })
+      → Checks B o ws L W O (record { answer = refused output_short 0; work = W; output = O })
   unread : {r : Reason} {p : ℕ} → Allowed L → check_room L ≤ length W → L ≤ length O → Misread ws r p
       → Checks B o ws L W O (record { answer = refused r p; work = W; output = O })
   untyped : {r : Reason} {p : ℕ} {t : Term} → Allowed L → check_room L ≤ length W → L ≤ length O

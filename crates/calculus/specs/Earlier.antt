@@ -5,7 +5,7 @@ use Rattle.calculus.specs.Words.{longest}
 use Rattle.calculus.specs.Book.{Book, View, bodies}
 use Rattle.calculus.specs.Rules.{◌⊩◌⟶◌, CanStep, Value}
 use Rattle.calculus.specs.Step.{Next, step}
-use Rattle.calculus.specs.Run.{End, at_value, spent, at-stuck, too_long, run_until, run_from}
+use Rattle.calculus.specs.Run.{End, at_value, spent, at_stuck, too_long, run_until, run_from}
 use Rattle.calculus.specs.Outcomes.{Checked, check_by, Desk, alone, Ran, run_by}
 use Rattle.calculus.specs.Outcomes as now
 use Rattle.calculus.specs.Runs.{Runs}
@@ -15,7 +15,7 @@ use Rattle.calculus.specs.Runs.{Runs}
 pub data Ends (v : View) (g n : ℕ) (x : Term) : End → Type 0 where
   ends_spent : n ≡ g → Ends v g n x spent
   ends_value : n < g → Value x → Ends v g n x at_value
-  ends_stuck : n < g → ¬ Value x → ¬ CanStep v x → Ends v g n x at-stuck
+  ends_stuck : n < g → ¬ Value x → ¬ CanStep v x → Ends v g n x at_stuck
   ends_long : {y : Term} → n < g → v ⊩ x ⟶ y → longest < size y → Ends v g n x too_long
 
 -- A run whose grant was used was spent, whatever its state does.

@@ -2,7 +2,7 @@
 use Rattle.std.specs.Prelude.{ℕ, ◌≤◌, ◌<◌, ◌∷◌, ◌≢◌, ◌≡◌}
 use Rattle.std.proofs.Math.Option.{some}
 use Rattle.calculus.specs.Term.{Term, var, star, app, lam, pi, castup, castdown, mu, name, size, raise, substitute}
-use Rattle.calculus.specs.Answer.{Reason, not_star, not_product, wrong-argument, no_step, wrong-cast, wrong-recursion, over_limit}
+use Rattle.calculus.specs.Answer.{Reason, not_star, not_product, wrong_argument, no_step, wrong_cast, wrong_recursion, over_limit}
 use Rattle.calculus.specs.Words.{first_part, second_part}
 use Rattle.calculus.specs.Book.{Book, View, types}
 use Rattle.calculus.specs.Rules.{Context, ◌⊩◌⟶◌, CanStep, ◌∋◌⦂◌}
@@ -23,7 +23,7 @@ pub data Fails (B : Book) (v : View) (L : ℕ) : Context → ℕ → Term → Re
   app_argument : {Γ : Context} {p q : ℕ} {f u a b : Term} {r : Reason}
       → B ∣ v ∣ Γ ⊢⟨ L ⟩ f ⦂ pi a b → Fails B v L Γ (second_part p f) u r q → Fails B v L Γ p (app f u) r q
   app_mismatch : {Γ : Context} {p : ℕ} {f u a b σ : Term}
-      → B ∣ v ∣ Γ ⊢⟨ L ⟩ f ⦂ pi a b → B ∣ v ∣ Γ ⊢⟨ L ⟩ u ⦂ σ → σ ≢ a → Fails B v L Γ p (app f u) wrong-argument p
+      → B ∣ v ∣ Γ ⊢⟨ L ⟩ f ⦂ pi a b → B ∣ v ∣ Γ ⊢⟨ L ⟩ u ⦂ σ → σ ≢ a → Fails B v L Γ p (app f u) wrong_argument p
   app_over : {Γ : Context} {p : ℕ} {f u a b : Term}
       → B ∣ v ∣ Γ ⊢⟨ L ⟩ f ⦂ pi a b → B ∣ v ∣ Γ ⊢⟨ L ⟩ u ⦂ a → L < size (substitute 0 u b) → Fails B v L Γ p (app f u) over_limit p
   -- "Abstraction: annotation has type star, else 10; body; the product of both."
@@ -58,7 +58,7 @@ pub data Fails (B : Book) (v : View) (L : ℕ) : Context → ℕ → Term → Re
   castup_step_over : {Γ : Context} {p : ℕ} {a a' e σ : Term}
       → B ∣ v ∣ Γ ⊢⟨ L ⟩ a ⦂ star → B ∣ v ∣ Γ ⊢⟨ L ⟩ e ⦂ σ → v ⊩ a ⟶ a' → L < size a' → Fails B v L Γ p (castup a e) over_limit p
   castup_mismatch : {Γ : Context} {p : ℕ} {a a' e σ : Term}
-      → B ∣ v ∣ Γ ⊢⟨ L ⟩ a ⦂ star → B ∣ v ∣ Γ ⊢⟨ L ⟩ e ⦂ σ → v ⊩ a ⟶ a' → size a' ≤ L → a' ≢ σ → Fails B v L Γ p (castup a e) wrong-cast p
+      → B ∣ v ∣ Γ ⊢⟨ L ⟩ a ⦂ star → B ∣ v ∣ Γ ⊢⟨ L ⟩ e ⦂ σ → v ⊩ a ⟶ a' → size a' ≤ L → a' ≢ σ → Fails B v L Γ p (castup a e) wrong_cast p
   castup_over : {Γ : Context} {p : ℕ} {a a' e : Term}
       → B ∣ v ∣ Γ ⊢⟨ L ⟩ a ⦂ star → B ∣ v ∣ Γ ⊢⟨ L ⟩ e ⦂ a' → v ⊩ a ⟶ a' → L < size a → Fails B v L Γ p (castup a e) over_limit p
   -- "Down cast: body; its type steps, else 13; the stepped type."
@@ -75,7 +75,7 @@ pub data Fails (B : Book) (v : View) (L : ℕ) : Context → ℕ → Term → Re
   mu_body : {Γ : Context} {p q : ℕ} {a e : Term} {r : Reason}
       → B ∣ v ∣ Γ ⊢⟨ L ⟩ a ⦂ star → Fails B v L (a ∷ Γ) (second_part p a) e r q → Fails B v L Γ p (mu a e) r q
   mu_mismatch : {Γ : Context} {p : ℕ} {a e σ : Term}
-      → B ∣ v ∣ Γ ⊢⟨ L ⟩ a ⦂ star → B ∣ v ∣ (a ∷ Γ) ⊢⟨ L ⟩ e ⦂ σ → σ ≢ raise 1 0 a → Fails B v L Γ p (mu a e) wrong-recursion p
+      → B ∣ v ∣ Γ ⊢⟨ L ⟩ a ⦂ star → B ∣ v ∣ (a ∷ Γ) ⊢⟨ L ⟩ e ⦂ σ → σ ≢ raise 1 0 a → Fails B v L Γ p (mu a e) wrong_recursion p
   mu_over : {Γ : Context} {p : ℕ} {a e : Term}
       → B ∣ v ∣ Γ ⊢⟨ L ⟩ a ⦂ star → B ∣ v ∣ (a ∷ Γ) ⊢⟨ L ⟩ e ⦂ raise 1 0 a → L < size a → Fails B v L Γ p (mu a e) over_limit p
   -- "Such a word has the stored type".

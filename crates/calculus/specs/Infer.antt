@@ -5,7 +5,7 @@ use Rattle.std.proofs.Math.Bool.{decide}
 use Rattle.std.proofs.Math.Option.{Option, none, some}
 use Rattle.std.proofs.Math.Decide.{ℕ_discrete}
 use Rattle.calculus.specs.Term.{Term, Term-discrete, var, star, app, lam, pi, castup, castdown, mu, name, size, raise, substitute}
-use Rattle.calculus.specs.Answer.{Answer, ok, refused, ◌>>=◌, ◌>>◌, require, not_star, not_product, wrong-argument, no_step, wrong-cast, wrong-recursion, over_limit}
+use Rattle.calculus.specs.Answer.{Answer, ok, refused, ◌>>=◌, ◌>>◌, require, not_star, not_product, wrong_argument, no_step, wrong_cast, wrong_recursion, over_limit}
 use Rattle.calculus.specs.Words.{first_part, second_part, Scoped, Named}
 use Rattle.calculus.specs.Book.{View}
 use Rattle.calculus.specs.Rules.{Context}
@@ -66,7 +66,7 @@ infer T step L Γ p (app f u) = do
   τ ← infer T step L Γ (first_part p) f
   (a, b) ← product p τ
   σ ← infer T step L Γ (second_part p f) u
-  require wrong-argument p (same σ a)
+  require wrong_argument p (same σ a)
   measure L p (substitute 0 u b)
 infer T step L Γ p (lam a e) = do
   σ ← infer T step L Γ (first_part p) a
@@ -85,7 +85,7 @@ infer T step L Γ p (castup a e) = do
   τ ← infer T step L Γ (second_part p a) e
   a' ← stepped p (step a)
   _ ← measure L p a'
-  require wrong-cast p (same a' τ)
+  require wrong_cast p (same a' τ)
   measure L p a
 infer T step L Γ p (castdown e) = do
   τ ← infer T step L Γ (first_part p) e
@@ -95,6 +95,6 @@ infer T step L Γ p (mu a e) = do
   σ ← infer T step L Γ (first_part p) a
   require not_star (first_part p) (same σ star)
   τ ← infer T step L (a ∷ Γ) (second_part p a) e
-  require wrong-recursion p (same τ (raise 1 0 a))
+  require wrong_recursion p (same τ (raise 1 0 a))
   measure L p a
 infer T step L Γ p (name i) = measure L p (stored (T i))

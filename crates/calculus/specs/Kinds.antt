@@ -6,16 +6,16 @@ use Rattle.calculus.specs.Book.{View}
 use Rattle.calculus.specs.Rules.{◌⊩◌⟶◌, s_beta, s_castdownup, s_app, s_castdown, s_mu, s_name}
 
 pub data Kind : Type 0 where
-  by-substitution by-unfolding by-cancellation : Kind
+  by_substitution by_unfolding by_cancellation : Kind
 
 -- The kind of a step, read off its derivation.
 unfoldable pub kind : {v : View} {x y : Term} → v ⊩ x ⟶ y → Kind
-kind s_beta = by-substitution
-kind s_castdownup = by-cancellation
+kind s_beta = by_substitution
+kind s_castdownup = by_cancellation
 kind (s_app s) = kind s
 kind (s_castdown s) = kind s
-kind s_mu = by-unfolding
-kind (s_name e) = by-unfolding
+kind s_mu = by_unfolding
+kind (s_name e) = by_unfolding
 
 -- A step has one kind: any two steps from a term have the same.
 abbrev pub OneKind : Type 0
@@ -33,9 +33,9 @@ counts s u c = record { substitutions = s; unfoldings = u; cancellations = c }
 
 -- One step more, of a kind.
 unfoldable pub counting : Kind → Counts → Counts
-counting by-substitution c = counts (suc c.substitutions) c.unfoldings c.cancellations
-counting by-unfolding c = counts c.substitutions (suc c.unfoldings) c.cancellations
-counting by-cancellation c = counts c.substitutions c.unfoldings (suc c.cancellations)
+counting by_substitution c = counts (suc c.substitutions) c.unfoldings c.cancellations
+counting by_unfolding c = counts c.substitutions (suc c.unfoldings) c.cancellations
+counting by_cancellation c = counts c.substitutions c.unfoldings (suc c.cancellations)
 
 -- "[...] and the three add up to the total."
 unfoldable pub total : Counts → ℕ

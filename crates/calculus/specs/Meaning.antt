@@ -3,7 +3,7 @@ use Rattle.std.specs.Prelude.{ℕ, ◌-◌, ◌≤◌, ◌<◌, min, cond, List,
 
 -- What a word means.
 pub data Meaning : Type 0 where
-  a_star a-castdown an-app a-castup a-lam a-pi a-mu : Meaning
+  a_star a_castdown an_app a_castup a_lam a_pi a_mu : Meaning
   a_variable : ℕ → Meaning
   a_name : ℕ → Meaning
   nothing : Meaning
@@ -14,19 +14,19 @@ unfoldable pub meaning : ℕ → Meaning
 meaning w =
     cond
     (ltb w 16)
-    (get_or (a_star ∷ a-castdown ∷ an-app ∷ a-castup ∷ a-lam ∷ a-pi ∷ a-mu ∷ []) w nothing)
+    (get_or (a_star ∷ a_castdown ∷ an_app ∷ a_castup ∷ a_lam ∷ a_pi ∷ a_mu ∷ []) w nothing)
     (cond (ltb w 2048) (a_variable (w - 16)) (cond (ltb w 2080) (a_name (w - 2048)) nothing))
 
 -- The parts that follow a node, in order: for each the number of variables that the node binds in it. "Nodes 4, 5 and 6 bind one
 -- variable in their second part only."
 unfoldable pub binds : Meaning → List ℕ
 binds a_star = []
-binds a-castdown = 0 ∷ []
-binds an-app = 0 ∷ 0 ∷ []
-binds a-castup = 0 ∷ 0 ∷ []
-binds a-lam = 0 ∷ 1 ∷ []
-binds a-pi = 0 ∷ 1 ∷ []
-binds a-mu = 0 ∷ 1 ∷ []
+binds a_castdown = 0 ∷ []
+binds an_app = 0 ∷ 0 ∷ []
+binds a_castup = 0 ∷ 0 ∷ []
+binds a_lam = 0 ∷ 1 ∷ []
+binds a_pi = 0 ∷ 1 ∷ []
+binds a_mu = 0 ∷ 1 ∷ []
 binds (a_variable i) = []
 binds (a_name i) = []
 binds nothing = []

@@ -2,7 +2,7 @@
 -- every word of every lent slice. `ws` is the caller's list, W the working slice, O the output slice, S the state slice, L the limit.
 use Rattle.std.specs.Prelude.{ℕ, zero, suc, ◌+◌, ◌-◌, ◌*◌, min, cond, ◌&&◌, List, [], ◌∷◌, ◌++◌, leb, length, take, drop, replicate, get_or, set}
 use Rattle.calculus.specs.Term.{Term, var, star, app, lam, pi, castup, castdown, mu, name, size}
-use Rattle.calculus.specs.Answer.{Answer, ok, refused, ◌>>=◌, ◌>>◌, require, number, limit-not-allowed, work-short, output-short, caller_not_allowed}
+use Rattle.calculus.specs.Answer.{Answer, ok, refused, ◌>>=◌, ◌>>◌, require, number, limit_not_allowed, work_short, output_short, caller_not_allowed}
 use Rattle.calculus.specs.Words.{words, longest}
 use Rattle.calculus.specs.Scan.{read}
 use Rattle.calculus.specs.Kinds.{Counts}
@@ -41,9 +41,9 @@ pub record Checked : Type 0 where
 -- the owner `o`.
 unfoldable pub verdict : ℕ → Book → ℕ → List ℕ → ℕ → List ℕ → List ℕ → Answer Term
 verdict room B o ws L W O = do
-  require limit-not-allowed 0 (leb 1 L && leb L largest_limit)
-  require work-short 0 (leb room (length W))
-  require output-short 0 (leb L (length O))
+  require limit_not_allowed 0 (leb 1 L && leb L largest_limit)
+  require work_short 0 (leb room (length W))
+  require output_short 0 (leb L (length O))
   t ← read ws
   infer (types B) (step (seen o B)) L [] 0 t
 
@@ -105,8 +105,8 @@ pub record Ran : Type 0 where
 unfoldable pub course : ℕ → (ℕ → Term → Ended) → List ℕ → ℕ → ℕ → List ℕ → List ℕ → Answer Ended
 course room go ws g caller W S = do
   require caller_not_allowed 0 (leb caller last_caller)
-  require work-short 0 (leb room (length W))
-  require output-short 0 (leb longest (length S))
+  require work_short 0 (leb room (length W))
+  require output_short 0 (leb longest (length S))
   t ← read ws
   ok (go g t)
 

@@ -1,7 +1,7 @@
 -- Where reading first fails (document 01, Words and Calls), from the words alone: refusals 4–9.
 use Rattle.std.specs.Prelude.{ℕ, zero, suc, ◌+◌, ◌≤◌, List, [], ◌∷◌, ◌≢◌, ◌≡◌, length}
 use Rattle.calculus.specs.Term.{Term, size}
-use Rattle.calculus.specs.Answer.{Reason, length-not-allowed, no-meaning, list-ends, words-after, level-65, unbound}
+use Rattle.calculus.specs.Answer.{Reason, length_not_allowed, no_meaning, list_ends, words_after, level_65, unbound}
 use Rattle.calculus.specs.Words.{emit, first_part, second_part, levels, Scoped, Named, longest, deepest}
 use Rattle.calculus.specs.Meaning.{a_variable, a_name, nothing, meaning, binds}
 
@@ -18,13 +18,13 @@ pub record Begins (room binders : ℕ) (ws : List ℕ) (t : Term) (rest : List �
 -- one constructor for each test, in the order of the tests; its premises say that the tests before it passed.
 pub data Unread : ℕ → ℕ → ℕ → List ℕ → Reason → ℕ → Type 0 where
   -- "length of the list | 6 | list ends inside the term": the place behind its last word
-  no_word : {room binders p : ℕ} → Unread room binders p [] list-ends p
+  no_word : {room binders p : ℕ} → Unread room binders p [] list_ends p
   -- "place of the word | 5 | word without meaning"
-  meaningless : {room binders p w : ℕ} {ws : List ℕ} → meaning w ≡ nothing → Unread room binders p (w ∷ ws) no-meaning p
+  meaningless : {room binders p w : ℕ} {ws : List ℕ} → meaning w ≡ nothing → Unread room binders p (w ∷ ws) no_meaning p
   -- No call is lent a book: a name means nothing there.
-  unnamed : {room binders p w i : ℕ} {ws : List ℕ} → meaning w ≡ a_name i → Unread room binders p (w ∷ ws) no-meaning p
+  unnamed : {room binders p w i : ℕ} {ws : List ℕ} → meaning w ≡ a_name i → Unread room binders p (w ∷ ws) no_meaning p
   -- "place of the word | 8 | node at level 65": no level is left
-  too_deep : {binders p w : ℕ} {ws : List ℕ} → meaning w ≢ nothing → ((i : ℕ) → meaning w ≢ a_name i) → Unread zero binders p (w ∷ ws) level-65 p
+  too_deep : {binders p w : ℕ} {ws : List ℕ} → meaning w ≢ nothing → ((i : ℕ) → meaning w ≢ a_name i) → Unread zero binders p (w ∷ ws) level_65 p
   -- "place of the word | 9 | variable outside all its binders"
   outside : {room binders p w i : ℕ} {ws : List ℕ}
       → meaning w ≡ a_variable i → binders ≤ i → Unread (suc room) binders p (w ∷ ws) unbound p
@@ -43,8 +43,8 @@ Sized ws = (1 ≤ length ws) × (length ws ≤ longest)
 -- `Misread ws r p`: reading the list `ws` as a closed term first fails by the reason `r` at the place `p`.
 pub data Misread (ws : List ℕ) : Reason → ℕ → Type 0 where
   -- "place 0 | 4 | term of 0 or over 1,024 words"
-  wrong_length : ¬ Sized ws → Misread ws length-not-allowed 0
+  wrong_length : ¬ Sized ws → Misread ws length_not_allowed 0
   -- "Its outermost node is at level 1; no node is below level 64." No binder stands around it.
   in_term : {r : Reason} {p : ℕ} → Sized ws → Unread deepest 0 0 ws r p → Misread ws r p
   -- "first word over | 7 | words after the term". "A word after a complete term is 7, untested."
-  word_over : {t : Term} {w : ℕ} {rest : List ℕ} → Sized ws → Begins deepest 0 ws t (w ∷ rest) → Misread ws words-after (size t)
+  word_over : {t : Term} {w : ℕ} {rest : List ℕ} → Sized ws → Begins deepest 0 ws t (w ∷ rest) → Misread ws words_after (size t)

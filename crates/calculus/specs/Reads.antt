@@ -1,7 +1,7 @@
 -- DEMAND 2 for reading: which lists are read, and where the others are refused.
 use Rattle.std.specs.Prelude.{ℕ, List, [], ◌∷◌, ◌++◌, ◌≡◌, ◌↔◌, replicate}
 use Rattle.calculus.specs.Term.{Term}
-use Rattle.calculus.specs.Answer.{ok, refused, Reason, length-not-allowed, no-meaning, list-ends, words-after, level-65, unbound}
+use Rattle.calculus.specs.Answer.{ok, refused, Reason, length_not_allowed, no_meaning, list_ends, words_after, level_65, unbound}
 use Rattle.calculus.specs.Words.{words, Worded, Codes}
 use Rattle.calculus.specs.Reading.{Misread}
 use Rattle.calculus.specs.Scan.{read}
@@ -33,17 +33,17 @@ casts ws = replicate 64 1 ++ ws
 -- later one, and words that fail by two of the tests 5, 8, 9.
 unfoldable pub edges : List Edge
 edges =
-    record { list = []; reason = length-not-allowed; place = 0 }
-    ∷ record { list = 7 ∷ []; reason = no-meaning; place = 0 }
-    ∷ record { list = 2 ∷ 0 ∷ []; reason = list-ends; place = 2 }
-    ∷ record { list = 0 ∷ 0 ∷ []; reason = words-after; place = 1 }
-    ∷ record { list = 0 ∷ 7 ∷ []; reason = words-after; place = 1 }
+    record { list = []; reason = length_not_allowed; place = 0 }
+    ∷ record { list = 7 ∷ []; reason = no_meaning; place = 0 }
+    ∷ record { list = 2 ∷ 0 ∷ []; reason = list_ends; place = 2 }
+    ∷ record { list = 0 ∷ 0 ∷ []; reason = words_after; place = 1 }
+    ∷ record { list = 0 ∷ 7 ∷ []; reason = words_after; place = 1 }
     ∷ record { list = 4 ∷ 0 ∷ 17 ∷ []; reason = unbound; place = 2 }
     ∷ record { list = 2 ∷ 16 ∷ 7 ∷ []; reason = unbound; place = 1 }
-    ∷ record { list = casts []; reason = list-ends; place = 64 }
-    ∷ record { list = casts (0 ∷ []); reason = level-65; place = 64 }
-    ∷ record { list = casts (7 ∷ []); reason = no-meaning; place = 64 }
-    ∷ record { list = casts (16 ∷ []); reason = level-65; place = 64 }
+    ∷ record { list = casts []; reason = list_ends; place = 64 }
+    ∷ record { list = casts (0 ∷ []); reason = level_65; place = 64 }
+    ∷ record { list = casts (7 ∷ []); reason = no_meaning; place = 64 }
+    ∷ record { list = casts (16 ∷ []); reason = level_65; place = 64 }
     ∷ []
 
 -- What the table claims: each of its lists is misread, by that reason and at that place.

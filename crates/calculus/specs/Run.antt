@@ -15,13 +15,13 @@ pub data State (v : View) (t : Term) : ℕ → Term → Type 0 where
 
 -- "Ends [...]: 2 spent, steps equal the grant; 1 value; 3 stuck; 4 the next state is over 1,024 words."
 pub data End : Type 0 where
-  at_value spent at-stuck too_long : End
+  at_value spent at_stuck too_long : End
 
 -- Document 01's number of each end.
 unfoldable pub end_number : End → ℕ
 end_number at_value = 1
 end_number spent = 2
-end_number at-stuck = 3
+end_number at_stuck = 3
 end_number too_long = 4
 
 -- The numbers tell the ends apart.
@@ -33,7 +33,7 @@ EndNumbersApart = (a b : End) → end_number a ≡ end_number b → a ≡ b
 -- step.
 pub data Ends (v : View) (g n : ℕ) (x : Term) : End → Type 0 where
   ends_value : n ≤ g → Value x → Ends v g n x at_value
-  ends_stuck : n ≤ g → ¬ Value x → ¬ CanStep v x → Ends v g n x at-stuck
+  ends_stuck : n ≤ g → ¬ Value x → ¬ CanStep v x → Ends v g n x at_stuck
   ends_spent : n ≡ g → CanStep v x → Ends v g n x spent
   ends_long : {y : Term} → n < g → v ⊩ x ⟶ y → longest < size y → Ends v g n x too_long
 
@@ -55,13 +55,13 @@ one_more k r = record { end = r.end; steps = suc r.steps; counts = counting k r.
 -- The run on from the state `x`, by its next state; `go` is the run within one step less.
 unfoldable pub advance : (Term → Ended) → Term → Next → Ended
 advance go x value = done at_value x
-advance go x stuck = done at-stuck x
+advance go x stuck = done at_stuck x
 advance go x (next k y) = cond (leb (size y) longest) (one_more k (go y)) (done too_long x)
 
 -- The end of a run whose grant is used, by what its state does.
 unfoldable pub last_end : Next → End
 last_end value = at_value
-last_end stuck = at-stuck
+last_end stuck = at_stuck
 last_end (next k y) = spent
 
 -- The run from the state `x` within a grant, by a step function; `last` tells its end where the grant is used.

@@ -2,12 +2,12 @@
 -- document 02, 2.1.
 use Rattle.std.specs.Prelude.{ℕ, ◌≤◌, ◌<◌, List, ◌≡◌, ◌↔◌, ◌⊎◌, length}
 use Rattle.calculus.specs.Term.{Term, size}
-use Rattle.calculus.specs.Answer.{ok, refused, Reason, number, work-short, output-short, caller_not_allowed}
+use Rattle.calculus.specs.Answer.{ok, refused, Reason, number, work_short, output_short, caller_not_allowed}
 use Rattle.calculus.specs.Words.{words, Codes, longest}
 use Rattle.calculus.specs.Book.{Book, View, bodies}
 use Rattle.calculus.specs.Reading.{Misread}
 use Rattle.calculus.specs.Kinds.{Counts, total, Counted}
-use Rattle.calculus.specs.Run.{State, End, at_value, at-stuck, Ends}
+use Rattle.calculus.specs.Run.{State, End, at_value, at_stuck, Ends}
 use Rattle.calculus.specs.Outcomes.{run_room, begun, cleared, Desk, last_caller, lowered, grant, Stop, Ran, run_over}
 
 -- `Runs v Order ws budget caller desk W S c`: a run of the words `ws`, where the bodies that `v` shows unfold, with the working slice W
@@ -16,9 +16,9 @@ pub data Runs (v : View) (Order : ℕ → ℕ → Term → End → Type 0) (ws :
   caller_refused : last_caller < caller
       → Runs v Order ws budget caller desk W S (record { answer = refused caller_not_allowed 0; desk = desk; work = W; state = S })
   work_refused : caller ≤ last_caller → length W < run_room
-      → Runs v Order ws budget caller desk W S (record { answer = refused work-short 0; desk = desk; work = W; state = S })
+      → Runs v Order ws budget caller desk W S (record { answer = refused work_short 0; desk = desk; work = W; state = S })
   state_refused : caller ≤ last_caller → run_room ≤ length W → length S < longest
-      → Runs v Order ws budget caller desk W S (record { answer = refused output-short 0; desk = desk; work = W; state = S })
+      → Runs v Order ws budget caller desk W S (record { answer = refused output_short 0; desk = desk; work = W; state = S })
   unread : {r : Reason} {p : ℕ} → caller ≤ last_caller → run_room ≤ length W → longest ≤ length S → Misread ws r p
       → Runs v Order ws budget caller desk W S (record { answer = refused r p; desk = desk; work = W; state = S })
   -- "A run that answers n steps has the states 0 to n; state n is the one with which its state slice then begins, and its end is the
@@ -51,7 +51,7 @@ CountsOfStates = (v : View) (t : Term) (k : ℕ) (x : Term) → State v t k x �
 
 -- An end with no step left to take.
 abbrev pub Rests : End → Type 0
-Rests E = (E ≡ at_value) ⊎ (E ≡ at-stuck)
+Rests E = (E ≡ at_value) ⊎ (E ≡ at_stuck)
 
 -- A run that stopped by `s` and left `c`, if it came to rest, leaves the same with any grant of its steps or more, whoever the caller
 -- is.

@@ -1,13 +1,13 @@
 -- DEMAND 3 as one type over words, limits, budgets, callers, desks and slices.
 use Rattle.std.specs.Prelude.{ℕ, ◌≤◌, ◌<◌, List, [], ◌≡◌, ◌↔◌, ◌≢◌, ◌⊎◌, length, take}
 use Rattle.calculus.specs.Term.{Term, star, lam, pi, castup, size}
-use Rattle.calculus.specs.Answer.{Answer, ok, refused, work-short, output-short, caller_not_allowed}
+use Rattle.calculus.specs.Answer.{Answer, ok, refused, work_short, output_short, caller_not_allowed}
 use Rattle.calculus.specs.Words.{words, Worded, Codes, longest}
 use Rattle.calculus.specs.Book.{Book, View, bodies}
 use Rattle.calculus.specs.Rules.{Context, ◌⊩◌⟶◌, CanStep, Value, ◌∣◌∣◌⊢◌⦂◌}
 use Rattle.calculus.specs.Growing.{GrownFrom, Grown}
 use Rattle.calculus.specs.Kinds.{Counts}
-use Rattle.calculus.specs.Run.{State, End, at-stuck, Ends}
+use Rattle.calculus.specs.Run.{State, End, at_stuck, Ends}
 use Rattle.calculus.specs.Outcomes.{run_room, check_over, Desk, last_caller, grant, Ran, Stop, run_over}
 
 -- The one element that has a property.
@@ -25,10 +25,10 @@ pub record Safe (C : Book) (τ x : Term) : Type 0 where
 -- 1,024 words": by `Ends`, with its grant used at a state that can step.
 pub data Safely (C : Book) (t τ : Term) (caller g : ℕ) (W S : List ℕ) : Answer Stop → Type 0 where
   caller_refused : last_caller < caller → Safely C t τ caller g W S (refused caller_not_allowed 0)
-  work_refused : caller ≤ last_caller → length W < run_room → Safely C t τ caller g W S (refused work-short 0)
-  state_refused : caller ≤ last_caller → run_room ≤ length W → length S < longest → Safely C t τ caller g W S (refused output-short 0)
+  work_refused : caller ≤ last_caller → length W < run_room → Safely C t τ caller g W S (refused work_short 0)
+  state_refused : caller ≤ last_caller → run_room ≤ length W → length S < longest → Safely C t τ caller g W S (refused output_short 0)
   ended : {E : End} {n : ℕ} {c : Counts} {x : Term} → caller ≤ last_caller → run_room ≤ length W → longest ≤ length S
-      → State (bodies C) t n x → Ends (bodies C) g n x E → E ≢ at-stuck
+      → State (bodies C) t n x → Ends (bodies C) g n x E → E ≢ at_stuck
       → ((k : ℕ) → k ≤ n → (y : Term) × Only (State (bodies C) t k) y × (size y ≤ longest) × Safe C τ y)
       → Safely C t τ caller g W S (ok (record { end = E; steps = n; counts = c }))
 

@@ -6,14 +6,14 @@ use mathlib.Core.List.{List, [], ◌∷◌, ◌++◌}
 use Rattle.std.specs.Prelude.{◌≡◌, ◌≢◌, replicate}
 use Rattle.std.proofs.Math.ListN.{length}
 use Rattle.calculus.specs.Term.{Term}
-use Rattle.calculus.specs.Answer.{ok, refused, Reason, not_star, not_product, wrong-argument, no_step, wrong-cast, wrong-recursion, over_limit}
+use Rattle.calculus.specs.Answer.{ok, refused, Reason, not_star, not_product, wrong_argument, no_step, wrong_cast, wrong_recursion, over_limit}
 use Rattle.calculus.specs.Words.{words, Codes, longest}
 use Rattle.calculus.specs.Book.{bodies, seen}
 use Rattle.calculus.specs.Rules.{◌⊩◌⟶◌, ◌∣◌∣◌⊢◌⦂◌}
-use Rattle.calculus.specs.Kinds.{by-unfolding, kind, Counts, counts, Counted}
+use Rattle.calculus.specs.Kinds.{by_unfolding, kind, Counts, counts, Counted}
 use Rattle.calculus.specs.Limit.{◌∣◌∣◌⊢⟨◌⟩◌⦂◌}
 use Rattle.calculus.specs.Failing.{Fails}
-use Rattle.calculus.specs.Run.{State, End, at_value, at-stuck, spent, too_long, Ends}
+use Rattle.calculus.specs.Run.{State, End, at_value, at_stuck, spent, too_long, Ends}
 use Rattle.calculus.specs.Outcomes.{check_room, run_room, begun, cleared, check, Desk, last_caller, allowance_of, lowered, grant, run}
 
 -- A row of the table.
@@ -45,7 +45,7 @@ Claim (ends ws budget E n c out) =
       work = cleared run_room W;
       state = begun out S;
     })
-Claim (spins ws) = (t : Term) × Codes 0 ws t × ((s : bodies [] ⊩ t ⟶ t) × (kind s ≡ by-unfolding))
+Claim (spins ws) = (t : Term) × Codes 0 ws t × ((s : bodies [] ⊩ t ⟶ t) × (kind s ≡ by_unfolding))
     × ((budget caller : ℕ) (desk : Desk) (W S : List ℕ) → caller ≤ last_caller → run_room ≤ length W → longest ≤ length S
     → run ws budget caller desk W S ≡ record {
       answer = ok (record { end = spent; steps = grant budget caller desk; counts = counts 0 (grant budget caller desk) 0 });
@@ -69,18 +69,18 @@ starred =
     types (0 ∷ []) 64 (0 ∷ [])
     ∷ refuses (1 ∷ 0 ∷ []) 64 no_step 0
     ∷ refuses (2 ∷ 0 ∷ 0 ∷ []) 64 not_product 0
-    ∷ ends (2 ∷ 0 ∷ 0 ∷ []) 1 at-stuck 0 (counts 0 0 0) (2 ∷ 0 ∷ 0 ∷ [])
+    ∷ ends (2 ∷ 0 ∷ 0 ∷ []) 1 at_stuck 0 (counts 0 0 0) (2 ∷ 0 ∷ 0 ∷ [])
     ∷ types (4 ∷ 0 ∷ 16 ∷ []) 64 (5 ∷ 0 ∷ 0 ∷ [])
     ∷ types (6 ∷ 0 ∷ 16 ∷ []) 64 (0 ∷ [])
     ∷ spins (6 ∷ 0 ∷ 16 ∷ [])
     ∷ types (3 ∷ 2 ∷ 4 ∷ 0 ∷ 16 ∷ 0 ∷ 0 ∷ []) 64 (2 ∷ 4 ∷ 0 ∷ 16 ∷ 0 ∷ [])
-    ∷ refuses (3 ∷ 2 ∷ 4 ∷ 0 ∷ 16 ∷ 0 ∷ 4 ∷ 0 ∷ 16 ∷ []) 64 wrong-cast 0
-    ∷ refuses (3 ∷ 6 ∷ 0 ∷ 16 ∷ 0 ∷ []) 64 wrong-cast 0
+    ∷ refuses (3 ∷ 2 ∷ 4 ∷ 0 ∷ 16 ∷ 0 ∷ 4 ∷ 0 ∷ 16 ∷ []) 64 wrong_cast 0
+    ∷ refuses (3 ∷ 6 ∷ 0 ∷ 16 ∷ 0 ∷ []) 64 wrong_cast 0
     ∷ types (4 ∷ 0 ∷ 4 ∷ 16 ∷ 16 ∷ []) 5 (5 ∷ 0 ∷ 5 ∷ 16 ∷ 17 ∷ [])
     ∷ refuses (4 ∷ 0 ∷ 4 ∷ 16 ∷ 16 ∷ []) 4 over_limit 0
     ∷ types (2 ∷ 4 ∷ 0 ∷ 4 ∷ 16 ∷ 16 ∷ 0 ∷ []) 64 (5 ∷ 0 ∷ 0 ∷ [])
-    ∷ refuses (2 ∷ 4 ∷ 0 ∷ 16 ∷ 4 ∷ 0 ∷ 16 ∷ []) 64 wrong-argument 0
-    ∷ refuses (6 ∷ 0 ∷ 4 ∷ 0 ∷ 16 ∷ []) 64 wrong-recursion 0
+    ∷ refuses (2 ∷ 4 ∷ 0 ∷ 16 ∷ 4 ∷ 0 ∷ 16 ∷ []) 64 wrong_argument 0
+    ∷ refuses (6 ∷ 0 ∷ 4 ∷ 0 ∷ 16 ∷ []) 64 wrong_recursion 0
     ∷ refuses (4 ∷ 4 ∷ 0 ∷ 16 ∷ 0 ∷ []) 64 not_star 1
     -- the product, T_PI, and its codomain refused by 10 at its own place
     ∷ types (5 ∷ 0 ∷ 16 ∷ []) 64 (0 ∷ [])
@@ -98,7 +98,7 @@ starred =
     -- ends with the grant used (document 02, 2.2): "`0` with budget 0 is now end 1"; the stuck term; a value after the
     -- last step; and spent where the next state would be over 1,024 words
     ∷ ends (0 ∷ []) 0 at_value 0 (counts 0 0 0) (0 ∷ [])
-    ∷ ends (2 ∷ 0 ∷ 0 ∷ []) 0 at-stuck 0 (counts 0 0 0) (2 ∷ 0 ∷ 0 ∷ [])
+    ∷ ends (2 ∷ 0 ∷ 0 ∷ []) 0 at_stuck 0 (counts 0 0 0) (2 ∷ 0 ∷ 0 ∷ [])
     ∷ ends (1 ∷ 3 ∷ 2 ∷ 4 ∷ 0 ∷ 16 ∷ 0 ∷ 0 ∷ []) 1 at_value 1 (counts 0 0 1) (0 ∷ [])
     ∷ ends (2 ∷ 4 ∷ 0 ∷ 6 ∷ 0 ∷ self_applied ++ 0 ∷ []) 1 spent 1 (counts 1 0 0) (6 ∷ 0 ∷ self_applied)
     ∷ []

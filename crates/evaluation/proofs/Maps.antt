@@ -18,7 +18,7 @@ use Rattle.evaluation.specs.Outcomes.{end_of, answer_of, ran_of}
 variant : calculus.End → End
 variant calculus.at_value = end.Value
 variant calculus.spent = end.Spent
-variant calculus.at-stuck = end.Stuck
+variant calculus.at_stuck = end.Stuck
 variant calculus.too_long = end.Long
 
 variant_found : (E : End) → variant (end_of E) ≡ E

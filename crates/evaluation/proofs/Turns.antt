@@ -12,9 +12,9 @@ use lib.ListN.{length}
 use Rattle.calculus.specs.Term.{Term, size}
 use Rattle.calculus.specs.Words.{longest}
 use Rattle.calculus.specs.Book.{Book, bodies}
-use Rattle.calculus.specs.Kinds.{Kind, by-substitution, by-unfolding, by-cancellation, Counts, counts, counting}
+use Rattle.calculus.specs.Kinds.{Kind, by_substitution, by_unfolding, by_cancellation, Counts, counts, counting}
 use Rattle.calculus.specs.Step as calculus
-use Rattle.calculus.specs.Run.{at_value, at-stuck, too_long, Ended, done, one_more, last_end, run_until, run_from}
+use Rattle.calculus.specs.Run.{at_value, at_stuck, too_long, Ended, done, one_more, last_end, run_until, run_from}
 use Rattle.calculus.specs.Run as run
 use Rattle.calculus.proofs.Comparisons.{le_leb, gt_leb}
 use Rattle.reduction.specs.declared.stepping.Kind as code
@@ -41,9 +41,9 @@ both c d = counts (c.substitutions + d.substitutions) (c.unfoldings + d.unfoldin
 -- A step is the last of those before or the first of those behind.
 both_counting : (k : Kind) (c d : Counts) → both c (counting k d) ≡ both (counting k c) d
 unfolding counting
-both_counting by-substitution c d = rw (add-suc c.substitutions d.substitutions, suc-add c.substitutions d.substitutions) refl
-both_counting by-unfolding c d = rw (add-suc c.unfoldings d.unfoldings, suc-add c.unfoldings d.unfoldings) refl
-both_counting by-cancellation c d = rw (add-suc c.cancellations d.cancellations, suc-add c.cancellations d.cancellations) refl
+both_counting by_substitution c d = rw (add-suc c.substitutions d.substitutions, suc-add c.substitutions d.substitutions) refl
+both_counting by_unfolding c d = rw (add-suc c.unfoldings d.unfoldings, suc-add c.unfoldings d.unfoldings) refl
+both_counting by_cancellation c d = rw (add-suc c.cancellations d.cancellations, suc-add c.cancellations d.cancellations) refl
 
 -- No step is behind.
 both_none : (c : Counts) → both c (counts 0 0 0) ≡ c
@@ -80,7 +80,7 @@ reaches_first B {grant} {t} h =
 -- the next state is written.
 Turned : Book → ℕ → Term → List ℕ → Stepped → Type 0
 Turned B g x next stepped.Value = from B (suc g) x ≡ done at_value x
-Turned B g x next stepped.Stuck = from B (suc g) x ≡ done at-stuck x
+Turned B g x next stepped.Stuck = from B (suc g) x ≡ done at_stuck x
 Turned B g x next stepped.Full = from B (suc g) x ≡ done too_long x
 Turned B g x next (stepped.To K n) =
     (y : Term) × (from B (suc g) x ≡ one_more (kind_of K) (from B g y)) × Holds (length B) next n y

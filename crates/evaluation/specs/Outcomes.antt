@@ -16,7 +16,7 @@ use Rattle.evaluation.specs.declared.Outcome.{Outcome}
 abbrev pub end_of : End → calculus.End
 end_of end.Value = calculus.at_value
 end_of end.Spent = calculus.spent
-end_of end.Stuck = calculus.at-stuck
+end_of end.Stuck = calculus.at_stuck
 end_of end.Long = calculus.too_long
 
 abbrev pub counts_of : Steps → Counts

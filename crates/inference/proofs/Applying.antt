@@ -4,7 +4,7 @@ use Prim.Native.Nat.{ℕ, suc, ◌+◌}
 use mathlib.Core.Logic.{◌≢◌}
 use mathlib.Core.Path.{◌≡◌, refl}
 use Rattle.calculus.specs.Term.{Term, app, pi, size, substitute}
-use Rattle.calculus.specs.Answer.{Answer, ok, refused, ◌>>=◌, ◌>>◌, require, not_product, wrong-argument}
+use Rattle.calculus.specs.Answer.{Answer, ok, refused, ◌>>=◌, ◌>>◌, require, not_product, wrong_argument}
 use Rattle.calculus.specs.Rules.{Context}
 use Rattle.calculus.specs.Infer.{infer, same, measure, product}
 use Rattle.calculus.proofs.Testing.{equal, unequal, no_product}
@@ -15,7 +15,7 @@ use mathlib.Core.List.{List}
 module _ (who : Reader) (book : List ℕ) (L : ℕ) (Γ : Context) (p : ℕ) (f u : Term) where
   -- What follows the argument's type, and the function's.
   abbrev pub after_argument : Term → Term → Term → Answer Term
-  after_argument a b σ = require wrong-argument p (same σ a) >> measure L p (substitute 0 u b)
+  after_argument a b σ = require wrong_argument p (same σ a) >> measure L p (substitute 0 u b)
 
   abbrev pub after_function : Term → Answer Term
   after_function τ = product p τ >>= λ x. judge who book L Γ (suc p + size f) u >>= after_argument x.0 x.1
@@ -34,7 +34,7 @@ module _ (who : Reader) (book : List ℕ) (L : ℕ) (Γ : Context) (p : ℕ) (f 
     by_argument y = rw (x, y) refl
 
     module _ {σ : Term} (y : judge who book L Γ (suc p + size f) u ≡ ok σ) where
-      pub wrong : σ ≢ a → judge who book L Γ p (app f u) ≡ refused wrong-argument p
+      pub wrong : σ ≢ a → judge who book L Γ p (app f u) ≡ refused wrong_argument p
       unfolding infer product ◌>>=◌ ◌>>◌ require
       wrong n = rw (x, y, unequal n) refl
 

@@ -5,7 +5,7 @@ use mathlib.Core.List.{List, ◌∷◌}
 use mathlib.Core.Logic.{◌≢◌}
 use mathlib.Core.Path.{◌≡◌, refl}
 use Rattle.calculus.specs.Term.{Term, star, lam, pi, mu, size, raise}
-use Rattle.calculus.specs.Answer.{Answer, ok, refused, ◌>>=◌, ◌>>◌, require, wrong-recursion, over_limit}
+use Rattle.calculus.specs.Answer.{Answer, ok, refused, ◌>>=◌, ◌>>◌, require, wrong_recursion, over_limit}
 use Rattle.calculus.specs.Rules.{Context}
 use Rattle.calculus.specs.Infer.{infer, same, measure}
 use Rattle.calculus.proofs.Testing.{equal, unequal, fitting, over}
@@ -17,7 +17,7 @@ use Rattle.book.specs.declared.Reader.{Reader}
 -- What a recursion does once its body has the type τ.
 abbrev pub mu_tests : ℕ → ℕ → Term → Term → Answer Term
 mu_tests L p a τ = do
-  require wrong-recursion p (same τ (raise 1 0 a))
+  require wrong_recursion p (same τ (raise 1 0 a))
   measure L p a
 
 module _ (who : Reader) (book : List ℕ) (L : ℕ) (Γ : Context) (p q : ℕ) (a e : Term) where
@@ -59,7 +59,7 @@ module _ {who : Reader} {book : List ℕ} {L : ℕ} {Γ : Context} {p : ℕ} {a 
   unfolding infer ◌>>=◌ ◌>>◌ require
   mu_tested = rw (B.annotation, equal star, B.body) refl
 
-  pub mu_other : B.type ≢ raise 1 0 a → judge who book L Γ p (mu a e) ≡ refused wrong-recursion p
+  pub mu_other : B.type ≢ raise 1 0 a → judge who book L Γ p (mu a e) ≡ refused wrong_recursion p
   unfolding ◌>>=◌ ◌>>◌ require
   mu_other d = rw (mu_tested, unequal d) refl
 

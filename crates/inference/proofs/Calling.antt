@@ -10,7 +10,7 @@ use lib.Seq.{take-take}
 use Rattle.calculus.specs.Term.{Term, app, pi, size}
 use Rattle.calculus.specs.Answer.{ok}
 use Rattle.calculus.specs.Words.{emit, words, Scoped, longest, Worded}
-use Rattle.calculus.specs.Meaning.{meaning, a-pi}
+use Rattle.calculus.specs.Meaning.{meaning, a_pi}
 use Rattle.calculus.specs.Rules.{Context}
 use Rattle.calculus.specs.Infer.{infer}
 use Rattle.calculus.proofs.Scoping.{scoped_more}
@@ -59,20 +59,20 @@ module _ {book : List ℕ} {Γ : Context} {f u : Term} {term sub places : List �
   function_found = rw (← place_first S) F.found
 
   -- The first word decides whether its type is a product.
-  pub other_type : meaning (word_at between top) ≢ a-pi → (a b : Term) → F.type ≢ pi a b
+  pub other_type : meaning (word_at between top) ≢ a_pi → (a b : Term) → F.type ≢ pi a b
   unfolding emit meaning
   other_type n a b x = n (type_meaning F x)
 
-  pub is_product : a-pi ≡ meaning (word_at between top) → (a : Term) × (b : Term) × (F.type ≡ pi a b)
+  pub is_product : a_pi ≡ meaning (word_at between top) → (a : Term) × (b : Term) × (F.type ≡ pi a b)
   unfolding Headed
   is_product w = type_headed who L _ (first S of_app) F w
 
-  pub function_product : (w : a-pi ≡ meaning (word_at between top))
+  pub function_product : (w : a_pi ≡ meaning (word_at between top))
       → judge who book L Γ (suc (length term - length sub)) f ≡ ok (pi (is_product w).0 (is_product w).1)
   function_product w = function_found ∙ ap ok (is_product w).2
 
   pub called : {more own : ℕ} {after places' : List ℕ}
-      → a-pi ≡ meaning (word_at between top)
+      → a_pi ≡ meaning (word_at between top)
       → Part (judge who book L Γ (length term - length (behind (1 + n) sub)) u) u places₁ depth between (top + m) more own after places'
       → Called who book L Γ (length term - length sub) f u places depth work top n more m own after places'
   unfolding size Scoped

@@ -4,7 +4,7 @@ use mathlib.Core.List.{List}
 use mathlib.Core.Logic.{◌≢◌}
 use mathlib.Core.Path.{◌≡◌, refl}
 use Rattle.calculus.specs.Term.{Term, star, castup, castdown, size}
-use Rattle.calculus.specs.Answer.{Answer, ok, refused, ◌>>=◌, ◌>>◌, require, no_step, wrong-cast, over_limit}
+use Rattle.calculus.specs.Answer.{Answer, ok, refused, ◌>>=◌, ◌>>◌, require, no_step, wrong_cast, over_limit}
 use Rattle.calculus.specs.Rules.{Context}
 use Rattle.calculus.specs.Kinds.{Kind}
 use Rattle.calculus.specs.Step.{next, step}
@@ -40,7 +40,7 @@ abbrev pub up_tests : Reader → List ℕ → ℕ → ℕ → Term → Term → 
 up_tests who book L p a τ = do
   a' ← stepped p (next_of who book a)
   _ ← measure L p a'
-  require wrong-cast p (same a' τ)
+  require wrong_cast p (same a' τ)
   measure L p a
 
 -- The annotation comes first, at `q`.
@@ -73,7 +73,7 @@ module _ {who : Reader} {book : List ℕ} {L : ℕ} {Γ : Context} {p : ℕ} {a 
   unfolding ◌>>=◌ stepped
   up_step_over x s h = rw (up_tested, s, over p x h) refl
 
-  pub up_other : {k : Kind} (x : Term) → next_of who book a ≡ next k x → size x ≤ L → x ≢ B.type → judge who book L Γ p (castup a e) ≡ refused wrong-cast p
+  pub up_other : {k : Kind} (x : Term) → next_of who book a ≡ next k x → size x ≤ L → x ≢ B.type → judge who book L Γ p (castup a e) ≡ refused wrong_cast p
   unfolding ◌>>=◌ ◌>>◌ require stepped
   up_other x s h n = rw (up_tested, s, fitting p x h, unequal n) refl
 

@@ -16,7 +16,7 @@ use Rattle.calculus.specs.Term.{Term, var, star, app, lam, pi, castup, castdown,
 use Rattle.calculus.specs.Answer.{Answer}
 use Rattle.calculus.specs.Words.{emit, Scoped, Named, deepest}
 use Rattle.calculus.specs.Meaning as calculus
-use Rattle.calculus.specs.Meaning.{meaning, a_star, a-castdown, an-app, a-castup, a-lam, a-pi, a-mu, a_variable, a_name, nothing}
+use Rattle.calculus.specs.Meaning.{meaning, a_star, a_castdown, an_app, a_castup, a_lam, a_pi, a_mu, a_variable, a_name, nothing}
 use Rattle.calculus.specs.Rules.{Context}
 use Rattle.calculus.specs.Infer.{infer}
 use Rattle.calculus.proofs.Coding.{size_positive}
@@ -37,12 +37,12 @@ use Rattle.calculus.proofs.Scoping.{named_more}
 -- A term with the node that is meant.
 unfoldable pub Headed : calculus.Meaning → Term → Type 0
 Headed a_star e = e ≡ star
-Headed a-castdown e = (d : Term) × (e ≡ castdown d)
-Headed an-app e = (f : Term) × (u : Term) × (e ≡ app f u)
-Headed a-castup e = (a : Term) × (d : Term) × (e ≡ castup a d)
-Headed a-lam e = (a : Term) × (d : Term) × (e ≡ lam a d)
-Headed a-pi e = (a : Term) × (b : Term) × (e ≡ pi a b)
-Headed a-mu e = (a : Term) × (d : Term) × (e ≡ mu a d)
+Headed a_castdown e = (d : Term) × (e ≡ castdown d)
+Headed an_app e = (f : Term) × (u : Term) × (e ≡ app f u)
+Headed a_castup e = (a : Term) × (d : Term) × (e ≡ castup a d)
+Headed a_lam e = (a : Term) × (d : Term) × (e ≡ lam a d)
+Headed a_pi e = (a : Term) × (b : Term) × (e ≡ pi a b)
+Headed a_mu e = (a : Term) × (d : Term) × (e ≡ mu a d)
 Headed (a_variable i) e = e ≡ var i
 Headed (a_name i) e = e ≡ name i
 Headed nothing e = ⊥
@@ -120,5 +120,5 @@ other ks m r n h x = miss ks (tag r) (subst (λ k. T (not (has_key ks k))) (sym 
 pub not_star : (r : Meaning) → OneOf (1 ∷ 2 ∷ 3 ∷ 4 ∷ 5 ∷ 6 ∷ 7 ∷ 8 ∷ 9 ∷ []) (tag r) → meaning_of r ≢ a_star
 not_star r h = other (1 ∷ 2 ∷ 3 ∷ 4 ∷ 5 ∷ 6 ∷ 7 ∷ 8 ∷ 9 ∷ []) a_star r tt h
 
-pub not_product : (r : Meaning) → OneOf (0 ∷ 1 ∷ 2 ∷ 3 ∷ 4 ∷ 5 ∷ 7 ∷ 8 ∷ 9 ∷ []) (tag r) → meaning_of r ≢ a-pi
-not_product r h = other (0 ∷ 1 ∷ 2 ∷ 3 ∷ 4 ∷ 5 ∷ 7 ∷ 8 ∷ 9 ∷ []) a-pi r tt h
+pub not_product : (r : Meaning) → OneOf (0 ∷ 1 ∷ 2 ∷ 3 ∷ 4 ∷ 5 ∷ 7 ∷ 8 ∷ 9 ∷ []) (tag r) → meaning_of r ≢ a_pi
+not_product r h = other (0 ∷ 1 ∷ 2 ∷ 3 ∷ 4 ∷ 5 ∷ 7 ∷ 8 ∷ 9 ∷ []) a_pi r tt h

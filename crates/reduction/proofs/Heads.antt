@@ -13,7 +13,7 @@ use lib.Seq.{drop-cons}
 use Rattle.calculus.specs.Term.{Term, var, star, app, lam, pi, castup, castdown, mu, name, size}
 use Rattle.calculus.specs.Words.{Named, Worded}
 use Rattle.calculus.specs.Book.{View, most}
-use Rattle.calculus.specs.Meaning.{Meaning, a_star, a-castdown, an-app, a-castup, a-lam, a-pi, a-mu, a_variable, a_name, nothing, meaning}
+use Rattle.calculus.specs.Meaning.{Meaning, a_star, a_castdown, an_app, a_castup, a_lam, a_pi, a_mu, a_variable, a_name, nothing, meaning}
 use Rattle.calculus.proofs.Meanings.{word, Indexed, meaning_word}
 use Rattle.term.specs.Kept.{keep, word_at}
 use Rattle.term.proofs.Keeping.{spelled}
@@ -31,12 +31,12 @@ stands (some e) = true
 -- Whether a word is a name that something stands for at a view.
 abbrev pub visible : View → Meaning → Bool
 visible v a_star = false
-visible v a-castdown = false
-visible v an-app = false
-visible v a-castup = false
-visible v a-lam = false
-visible v a-pi = false
-visible v a-mu = false
+visible v a_castdown = false
+visible v an_app = false
+visible v a_castup = false
+visible v a_lam = false
+visible v a_pi = false
+visible v a_mu = false
 visible v (a_variable i) = false
 visible v (a_name i) = stands (v i)
 visible v nothing = false

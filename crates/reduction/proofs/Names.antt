@@ -13,7 +13,7 @@ use types.Run.{OneOf}
 use Rattle.calculus.specs.Term.{Term, name, size}
 use Rattle.calculus.specs.Words.{Named}
 use Rattle.calculus.specs.Book.{Definition, Book, entry}
-use Rattle.calculus.specs.Kinds.{by-unfolding}
+use Rattle.calculus.specs.Kinds.{by_unfolding}
 use Rattle.calculus.specs.Meaning.{a_name, meaning}
 use Rattle.calculus.specs.Step.{next, step, unfolded}
 use Rattle.term.specs.Kept.{kept, word_at}
@@ -75,7 +75,7 @@ module _ {ws : List ℕ} {at i : ℕ} (p : Placed ws at (name i)) {book : List �
         let shown_here : sight who B i ≡ some x = subst (λ n. sight who B n ≡ some x) same shown in
         shown_here ∙ sym (sight_bodies who B i x shown_here) ∙ bodies_entry B i d e
 
-    pub name_steps : (who : Reader) → locate (sight who B) t ≡ redex.Name at → step (sight who B) (name i) ≡ next by-unfolding d.body
+    pub name_steps : (who : Reader) → locate (sight who B) t ≡ redex.Name at → step (sight who B) (name i) ≡ next by_unfolding d.body
     unfolding step unfolded
     name_steps who there = ap unfolded (name_stands who there)
 

@@ -10,7 +10,7 @@ use borrow.Author.Tests.{le-leb, lt-leb}
 use lib.Dec.{leb}
 use types.Run.{OneOf}
 use Rattle.calculus.specs.Meaning as calculus
-use Rattle.calculus.specs.Meaning.{a_star, a-castdown, an-app, a-castup, a-lam, a-pi, a-mu, a_variable, a_name, nothing, meaning}
+use Rattle.calculus.specs.Meaning.{a_star, a_castdown, an_app, a_castup, a_lam, a_pi, a_mu, a_variable, a_name, nothing, meaning}
 use Rattle.calculus.proofs.Meanings.{by_word, from_seven}
 use Rattle.term.specs.declared.word.Meaning.{Meaning}
 use Rattle.term.specs.declared.word.Meaning.TheVariants.{Star, CastDown, Application, CastUp, Abstraction, Product}
@@ -20,12 +20,12 @@ use Rattle.term.proofs.Visits.{tag, Each, at_one}
 
 abbrev pub index : calculus.Meaning → ℕ
 index a_star = 0
-index a-castdown = 1
-index an-app = 2
-index a-castup = 3
-index a-lam = 4
-index a-pi = 6
-index a-mu = 5
+index a_castdown = 1
+index an_app = 2
+index a_castup = 3
+index a_lam = 4
+index a_pi = 6
+index a_mu = 5
 index (a_variable i) = 7
 index nothing = 8
 index (a_name i) = 9

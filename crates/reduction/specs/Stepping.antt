@@ -124,9 +124,9 @@ Movable old new (w ∷ l ∷ ws) = (l ≤ longest) × (old ≤ l + new) × Movab
 
 -- The kinds of the calculus that those of the code stand for.
 abbrev pub kind_of : Kind → kinds.Kind
-kind_of kind.Substitution = kinds.by-substitution
-kind_of kind.Unfolding = kinds.by-unfolding
-kind_of kind.Cancellation = kinds.by-cancellation
+kind_of kind.Substitution = kinds.by_substitution
+kind_of kind.Unfolding = kinds.by_unfolding
+kind_of kind.Cancellation = kinds.by_cancellation
 
 -- `Arrives K x out r after`: by a step of the kind K the term `x` is kept at the front of `out`, which leaves `after`, and the answer
 -- is `r`.

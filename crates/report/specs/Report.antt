@@ -2,7 +2,7 @@
 use Rattle.std.specs.Prelude.{ℕ, min, List, [], ◌∷◌, ◌++◌, ◌≡◌, take}
 use Prim.Native.String.{String}
 use Rattle.calculus.specs.Term.{Term}
-use Rattle.calculus.specs.Answer.{Answer, ok, refused, ◌>>=◌, ◌>>◌, require, number, length-not-allowed}
+use Rattle.calculus.specs.Answer.{Answer, ok, refused, ◌>>=◌, ◌>>◌, require, number, length_not_allowed}
 use Rattle.calculus.specs.Words.{words}
 use Rattle.calculus.specs.Scan.{read}
 use Rattle.calculus.specs.Book.{types, bodies, seen}
@@ -39,7 +39,7 @@ judged ws = do
 -- "An odd number of bytes, or over 2,048, is answer 4."
 unfoldable pub outcome : List ℕ → Answer (Term × Ended)
 outcome bytes = do
-  require length-not-allowed 0 (allowed bytes)
+  require length_not_allowed 0 (allowed bytes)
   judged (pairs bytes)
 
 -- "Answer (0 or a refusal), place, type, end, steps, state."

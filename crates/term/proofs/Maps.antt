@@ -6,7 +6,7 @@ use lib.ListN.{get_or}
 use Rattle.calculus.specs.Answer as calculus
 use Rattle.calculus.specs.Answer.{Answer, ok, refused, number}
 use Rattle.calculus.specs.Meaning as calculus-meaning
-use Rattle.calculus.specs.Meaning.{a_star, a-castdown, an-app, a-castup, a-lam, a-pi, a-mu, a_variable, a_name, nothing}
+use Rattle.calculus.specs.Meaning.{a_star, a_castdown, an_app, a_castup, a_lam, a_pi, a_mu, a_variable, a_name, nothing}
 use Rattle.calculus.proofs.NumberInjective.{undone}
 use Rattle.term.specs.declared.Found.{Found}
 use Rattle.term.specs.declared.reading.Reading.{Reading}
@@ -89,12 +89,12 @@ reading_of_injective = undone reading_of reading_from reading_again
 
 abbrev meaning_from : calculus-meaning.Meaning → Meaning
 meaning_from a_star = Star
-meaning_from a-castdown = CastDown
-meaning_from an-app = Application
-meaning_from a-castup = CastUp
-meaning_from a-lam = Abstraction
-meaning_from a-pi = Product
-meaning_from a-mu = Recursion
+meaning_from a_castdown = CastDown
+meaning_from an_app = Application
+meaning_from a_castup = CastUp
+meaning_from a_lam = Abstraction
+meaning_from a_pi = Product
+meaning_from a_mu = Recursion
 meaning_from (a_variable i) = Variable i
 meaning_from nothing = Nothing
 meaning_from (a_name i) = Name i

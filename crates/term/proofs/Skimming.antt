@@ -6,7 +6,7 @@ use mathlib.Core.Path.{◌≡◌, refl, ap, ◌∙◌}
 use native.Mathlib.Numerals.{add-one}
 use lib.ListN.{length, get_or, drop, drop_of_length-le}
 use lib.Seq.{drop-cons, drop-drop}
-use Rattle.calculus.specs.Answer.{ok, refused, ◌>>◌, list-ends}
+use Rattle.calculus.specs.Answer.{ok, refused, ◌>>◌, list_ends}
 use Rattle.calculus.specs.Meaning.{meaning, binds}
 use Rattle.calculus.specs.Scan.{Pending, test, below}
 use Rattle.term.specs.Subterms.{skim}
@@ -30,6 +30,6 @@ skim_word ws p s ss h = rw (drop-cons ws p 0 h, add-one p) refl
 
 pub skim_end : (ws : List ℕ) (p : ℕ) (s : Pending) (ss : List Pending)
     → length ws ≤ p
-    → skim (drop p ws) (s ∷ ss) p ≡ refused list-ends p
+    → skim (drop p ws) (s ∷ ss) p ≡ refused list_ends p
 unfolding skim
 skim_end ws p s ss h = rw (drop_of_length-le ws h) refl

@@ -8,7 +8,7 @@ use native.Mathlib.Omega.{arith}
 use lib.Dec.{lit≤}
 use lib.ListN.{length, get_or, drop}
 use Rattle.calculus.specs.Words.{deepest}
-use Rattle.calculus.specs.Answer.{Reason, ok, refused, ◌>>=◌, ◌>>◌, list-ends}
+use Rattle.calculus.specs.Answer.{Reason, ok, refused, ◌>>=◌, ◌>>◌, list_ends}
 use Rattle.calculus.specs.Meaning.{meaning, binds}
 use Rattle.calculus.specs.Scan.{Pending, test, below}
 use Rattle.term.specs.Subterms.{pending, skim}
@@ -69,7 +69,7 @@ module _ {ws rooms scopes : List ℕ} {n p room b : ℕ} (s : Stands ws rooms sc
   unfolding Fitting
   fits = rw (stacked_length rooms scopes n) at s.fitting.0
 
-  pub short : length ws ≤ p → refused list-ends p ≡ skim ws (pending deepest 0 ∷ []) 0
+  pub short : length ws ≤ p → refused list_ends p ≡ skim ws (pending deepest 0 ∷ []) 0
   short h = sym (s.same ∙ skim_end ws p (pending room b) (stacked rooms scopes n) h)
 
   module _ (inside : p < length ws) where

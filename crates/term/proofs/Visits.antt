@@ -11,7 +11,7 @@ use lib.Dec.{T, leb, ltb, eqb, ltb→lt}
 use lib.ListN.{get_or}
 use types.Run.{OneOf}
 use denote.Enum.Declared.{tag_of}
-use Rattle.calculus.specs.Answer.{ok, refused, ◌>>=◌, ◌>>◌, require, no-meaning, level-65, unbound}
+use Rattle.calculus.specs.Answer.{ok, refused, ◌>>=◌, ◌>>◌, require, no_meaning, level_65, unbound}
 use Rattle.calculus.specs.Meaning as calculus
 use Rattle.calculus.specs.Meaning.{a_variable, binds}
 use Rattle.calculus.specs.Scan.{means, bound, test, Pending}
@@ -23,11 +23,11 @@ use Rattle.term.specs.Subterms.{inside, pending}
 use Rattle.term.specs.contracts.word.Meaning.{the_type}
 
 module _ (m : calculus.Meaning) (room b p : ℕ) where
-  pub meaningless : means m ≡ false → refused no-meaning p ≡ test m (pending room b) p
+  pub meaningless : means m ≡ false → refused no_meaning p ≡ test m (pending room b) p
   unfolding test require ◌>>=◌ ◌>>◌
   meaningless h = rw h refl
 
-  pub too_deep : T (means m) → room ≡ 0 → refused level-65 p ≡ test m (pending room b) p
+  pub too_deep : T (means m) → room ≡ 0 → refused level_65 p ≡ test m (pending room b) p
   unfolding test require ◌>>=◌ ◌>>◌
   too_deep meant none = rw (passed (means m) meant, none) refl
 
@@ -45,7 +45,7 @@ module _ (m : calculus.Meaning) (room b p : ℕ) where
 
 -- The other way: a word that passes has a level.
 level : (p : ℕ) (a b c : Bool)
-    → ok tt ≡ (require no-meaning p a >> (require level-65 p b >> require unbound p c))
+    → ok tt ≡ (require no_meaning p a >> (require level_65 p b >> require unbound p c))
     → T b
 unfolding require ◌>>=◌ ◌>>◌
 level p true true c e = tt

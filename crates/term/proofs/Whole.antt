@@ -10,7 +10,7 @@ use lib.Dec.{ltb}
 use lib.ListN.{length, drop, length-drop}
 use Rattle.calculus.specs.Term.{Term}
 use Rattle.calculus.specs.Words.{longest, deepest}
-use Rattle.calculus.specs.Answer.{Reason, Answer, ok, refused, ◌>>=◌, ◌>>◌, require, length-not-allowed, words-after}
+use Rattle.calculus.specs.Answer.{Reason, Answer, ok, refused, ◌>>=◌, ◌>>◌, require, length_not_allowed, words_after}
 use Rattle.calculus.specs.Meaning.{meaning, binds}
 use Rattle.calculus.specs.Scan.{test, node, the_first, Pending, below, scan, read}
 use Rattle.term.specs.Subterms.{outcome, pending, skim}
@@ -18,13 +18,13 @@ use Rattle.term.proofs.Skimming.{behind}
 
 -- At the place behind the terms nothing is left, or a word over.
 left_over : List ℕ → ℕ → Answer (Unit {0})
-left_over whole q = cond (ltb q (length whole)) (refused words-after q) (ok tt)
+left_over whole q = cond (ltb q (length whole)) (refused words_after q) (ok tt)
 
 none_over : (whole : List ℕ) (q : ℕ) → length whole ≤ q → left_over whole q ≡ ok tt
 unfolding left_over
 none_over whole q h = rw (le-ltb q (length whole) h) refl
 
-some_over : (whole : List ℕ) (q : ℕ) → q < length whole → left_over whole q ≡ refused words-after q
+some_over : (whole : List ℕ) (q : ℕ) → q < length whole → left_over whole q ≡ refused words_after q
 unfolding left_over
 some_over whole q h = rw (lt-ltb q (length whole) h) refl
 
@@ -71,7 +71,7 @@ module _ (ws : List ℕ) (some : 1 ≤ length ws) (short : length ws ≤ longest
   unfolding ◌>>=◌
   read_refused e = rw (allowed, ← e) refl
 
-  pub read_over : {q : ℕ} → ok q ≡ skim ws (pending deepest 0 ∷ []) 0 → q < length ws → refused words-after q ≡ outcome (read ws)
+  pub read_over : {q : ℕ} → ok q ≡ skim ws (pending deepest 0 ∷ []) 0 → q < length ws → refused words_after q ≡ outcome (read ws)
   unfolding ◌>>=◌
   read_over {q} e h = rw (allowed, ← e) (sym (some_over ws q h))
 
@@ -79,10 +79,10 @@ module _ (ws : List ℕ) (some : 1 ≤ length ws) (short : length ws ≤ longest
   unfolding ◌>>=◌
   read_whole {q} e h = rw (allowed, ← e) (sym (none_over ws q h))
 
-pub read_empty : (ws : List ℕ) → length ws ≡ 0 → refused length-not-allowed 0 ≡ outcome (read ws)
+pub read_empty : (ws : List ℕ) → length ws ≡ 0 → refused length_not_allowed 0 ≡ outcome (read ws)
 unfolding read require ◌>>=◌ ◌>>◌
 read_empty ws none = rw none refl
 
-pub read_long : (ws : List ℕ) → longest < length ws → refused length-not-allowed 0 ≡ outcome (read ws)
+pub read_long : (ws : List ℕ) → longest < length ws → refused length_not_allowed 0 ≡ outcome (read ws)
 unfolding read require ◌>>=◌ ◌>>◌
 read_long ws long = rw (le-leb 1 (length ws) (omega arith), lt-leb (length ws) longest long) refl

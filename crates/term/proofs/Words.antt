@@ -8,7 +8,7 @@ use borrow.Author.Tests.{lt-ltb, le-ltb}
 use lib.Dec.{lit≤}
 use lib.ListN.{length, take, get_or-eq_default}
 use lib.Seq.{take_all}
-use Rattle.calculus.specs.Meaning.{Meaning, a_star, a-castdown, an-app, a-castup, a-lam, a-pi, a-mu, a_variable, a_name, nothing, binds, meaning}
+use Rattle.calculus.specs.Meaning.{Meaning, a_star, a_castdown, an_app, a_castup, a_lam, a_pi, a_mu, a_variable, a_name, nothing, binds, meaning}
 use Rattle.calculus.specs.Scan.{means}
 use Rattle.calculus.proofs.Meanings.{nodes, parts_by_formula, word, word_meaning}
 use Rattle.term.specs.declared.word.Shape.{Shape}
@@ -52,12 +52,12 @@ pub data Parted : List ℕ → Type 0 where
 pub parted : (m : Meaning) → Parted (binds m)
 unfolding binds
 parted a_star = no_part
-parted a-castdown = one_part
-parted an-app = two_parts 0 (lit≤ tt)
-parted a-castup = two_parts 0 (lit≤ tt)
-parted a-lam = two_parts 1 (lit≤ tt)
-parted a-pi = two_parts 1 (lit≤ tt)
-parted a-mu = two_parts 1 (lit≤ tt)
+parted a_castdown = one_part
+parted an_app = two_parts 0 (lit≤ tt)
+parted a_castup = two_parts 0 (lit≤ tt)
+parted a_lam = two_parts 1 (lit≤ tt)
+parted a_pi = two_parts 1 (lit≤ tt)
+parted a_mu = two_parts 1 (lit≤ tt)
 parted (a_variable i) = no_part
 parted (a_name i) = no_part
 parted nothing = no_part

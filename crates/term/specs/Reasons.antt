@@ -5,21 +5,21 @@ use Rattle.term.specs.declared.refusal.Reason.{Reason}
 use Rattle.term.specs.declared.refusal.Reason.TheVariants.{LimitNotAllowed, WorkShort, OutputShort, LengthNotAllowed, NoMeaning, ListEnds, WordsAfter, Level65, Unbound, NotStar, NotProduct, WrongArgument, NoStep, WrongCast, WrongRecursion, OverLimit, CallerNotAllowed}
 
 abbrev pub reason_of : Reason → calculus.Reason
-reason_of LimitNotAllowed = calculus.limit-not-allowed
-reason_of WorkShort = calculus.work-short
-reason_of OutputShort = calculus.output-short
-reason_of LengthNotAllowed = calculus.length-not-allowed
-reason_of NoMeaning = calculus.no-meaning
-reason_of ListEnds = calculus.list-ends
-reason_of WordsAfter = calculus.words-after
-reason_of Level65 = calculus.level-65
+reason_of LimitNotAllowed = calculus.limit_not_allowed
+reason_of WorkShort = calculus.work_short
+reason_of OutputShort = calculus.output_short
+reason_of LengthNotAllowed = calculus.length_not_allowed
+reason_of NoMeaning = calculus.no_meaning
+reason_of ListEnds = calculus.list_ends
+reason_of WordsAfter = calculus.words_after
+reason_of Level65 = calculus.level_65
 reason_of Unbound = calculus.unbound
 reason_of NotStar = calculus.not_star
 reason_of NotProduct = calculus.not_product
-reason_of WrongArgument = calculus.wrong-argument
+reason_of WrongArgument = calculus.wrong_argument
 reason_of NoStep = calculus.no_step
-reason_of WrongCast = calculus.wrong-cast
-reason_of WrongRecursion = calculus.wrong-recursion
+reason_of WrongCast = calculus.wrong_cast
+reason_of WrongRecursion = calculus.wrong_recursion
 reason_of OverLimit = calculus.over_limit
 reason_of CallerNotAllowed = calculus.caller_not_allowed
 

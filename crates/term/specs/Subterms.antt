@@ -1,6 +1,6 @@
 -- Reading one subterm after another without building terms, and what the enums of reading stand for.
 use Rattle.std.specs.Prelude.{ℕ, suc, Bool, ◌&&◌, List, [], ◌∷◌, ◌++◌, map}
-use Rattle.calculus.specs.Answer.{Answer, ok, refused, ◌>>◌, list-ends}
+use Rattle.calculus.specs.Answer.{Answer, ok, refused, ◌>>◌, list_ends}
 use Rattle.calculus.specs.Meaning.{Meaning, meaning, binds}
 use Rattle.calculus.specs.Scan.{Pending, means, bound, test, below}
 use Rattle.term.specs.Reasons.{reason_of}
@@ -21,7 +21,7 @@ inside m b = means m && bound m b
 -- As `scan` of the calculus reads the subterms still to come, but for the terms: the place behind them, or the first refusal.
 unfoldable pub skim : List ℕ → List Pending → ℕ → Answer ℕ
 skim [] [] p = ok p
-skim [] (s ∷ ss) p = refused list-ends p
+skim [] (s ∷ ss) p = refused list_ends p
 skim (w ∷ ws) [] p = ok p
 skim (w ∷ ws) (s ∷ ss) p = do
   test (meaning w) s p

@@ -7,12 +7,12 @@ use Rattle.term.specs.declared.word.Shape.{Shape}
 
 abbrev pub meaning_of : Meaning → calculus.Meaning
 meaning_of Star = calculus.a_star
-meaning_of CastDown = calculus.a-castdown
-meaning_of Application = calculus.an-app
-meaning_of CastUp = calculus.a-castup
-meaning_of Abstraction = calculus.a-lam
-meaning_of Product = calculus.a-pi
-meaning_of Recursion = calculus.a-mu
+meaning_of CastDown = calculus.a_castdown
+meaning_of Application = calculus.an_app
+meaning_of CastUp = calculus.a_castup
+meaning_of Abstraction = calculus.a_lam
+meaning_of Product = calculus.a_pi
+meaning_of Recursion = calculus.a_mu
 meaning_of (Variable i) = calculus.a_variable i
 meaning_of Nothing = calculus.nothing
 meaning_of (Name i) = calculus.a_name i

@@ -58,8 +58,8 @@ returns-4 c u coded has =
 mul-if5 : tie.Need-overflow-mul-if5
 mul-if5 c = record { fits = omega (arith, c.before.before.before.before.copy-nodes.ensures.near) }
 
-sub-raise : tie.Need-overflow-sub-raise
-sub-raise c = omega (arith, (put_place c.before.before.before.before.before.copy-nodes.ensures c.if5.true).0)
+sub_raise : tie.Need-overflow-sub-raise
+sub_raise c = omega (arith, (put_place c.before.before.before.before.before.copy-nodes.ensures c.if5.true).0)
 
 part-raise-start : tie.Need-slice-bounds-raise-start
 part-raise-start c =
@@ -102,5 +102,5 @@ put_variable_spec =
     (tie.spec
     (λ c. search rules) (λ c κs. search rules) (λ c. search rules) returns (λ c. search rules) (λ c. search rules)
     (λ c κs. search rules) (λ c. search rules) returns-2 copy-nodes-requires (λ c. search rules) returns-3 (λ c. search rules)
-    returns-4 mul-if5 (λ c. search rules) (λ c. search rules) (λ c. search rules) sub-raise part-raise-start
+    returns-4 mul-if5 (λ c. search rules) (λ c. search rules) (λ c. search rules) sub_raise part-raise-start
     (λ c. search rules) raise-requires (λ c. search rules) returns-5 (λ c. search rules) returns-6)
