@@ -5,12 +5,12 @@ use mathlib.Core.Bool.{Bool, true, false, cond}
 use mathlib.Core.List.{[], ◌∷◌, ◌++◌}
 use mathlib.Core.Logic.{◌⊎◌, inl, inr}
 use mathlib.Core.Option.{Option, none, some, none-ne-some}
-use mathlib.Core.Path.{◌≡◌, refl, sym, ap, ◌∙◌, fun_ext}
+use mathlib.Core.Path.{◌≡◌, refl, ap, fun_ext}
 use native.Mathlib.Nat.{le_of_suc-le-suc}
 use native.Mathlib.Omega.{arith}
 use lib.ListN.{length}
 use Rattle.calculus.specs.Term.{Term}
-use Rattle.calculus.specs.Book.{Definition, Book, View, ◌⊆◌, view, types, bodies, sees, seen}
+use Rattle.calculus.specs.Book.{Definition, Book, ◌⊆◌, view, types, bodies, sees, seen}
 
 module _ (see : Definition → Option Term) where
   view_within : (B : Book) (i : ℕ) {x : Term} → view see B i ≡ some x → i < length B

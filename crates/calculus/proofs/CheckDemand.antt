@@ -13,7 +13,7 @@ use lib.ListN.{length}
 use Rattle.calculus.specs.Term.{Term, size}
 use Rattle.calculus.specs.Answer.{Reason, Answer, ok, refused, ◌>>=◌, ◌>>◌, require, number}
 use Rattle.calculus.specs.Words.{words, Codes, longest}
-use Rattle.calculus.specs.Book.{Book, View, types, seen}
+use Rattle.calculus.specs.Book.{Book, types, seen}
 use Rattle.calculus.specs.Scan.{read}
 use Rattle.calculus.specs.Rules.{env_empty}
 use Rattle.calculus.specs.Limit.{◌∣◌∣◌⊢⟨◌⟩◌⦂◌}

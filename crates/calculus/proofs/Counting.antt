@@ -1,6 +1,6 @@
 -- The states of a term with the counts of the steps before them. A first step may be put before them or taken off, since one step
 -- more and another may be counted in either order; and each step counts one more in all, so that the states with counts are the states.
-use Prim.Native.Nat.{ℕ, zero, suc, ◌+◌}
+use Prim.Native.Nat.{ℕ, suc}
 use mathlib.Core.Path.{◌≡◌, refl, sym, ◌∙◌, ap, subst}
 use native.Mathlib.Nat.{suc_inj}
 use native.Mathlib.Omega.{arith}

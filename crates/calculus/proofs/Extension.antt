@@ -1,6 +1,5 @@
 -- What is typed stays typed over a book that has more, and at a view that shows more: every derivation is one there. By induction on
 -- derivations of typing and of well_formed contexts at once, since T_LAM has its annotation at the view only in the context of its body.
-use mathlib.Core.Path.{◌≡◌}
 use Rattle.calculus.specs.Term.{Term}
 use Rattle.calculus.specs.Book.{Book, View, ◌⊆◌, types, bodies}
 use Rattle.calculus.specs.Rules.{◌⊩◌⟶◌, s_beta, s_castdownup, s_app, s_castdown, s_mu, s_name, Context, WellFormed, env_empty, env_var, ◌∣◌∣◌⊢◌⦂◌, t_ax, t_var, t_app, t_lam, t_pi, t_castup, t_castdown, t_mu, t_name}

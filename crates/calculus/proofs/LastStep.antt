@@ -1,6 +1,6 @@
 -- A result on the last step. The earlier order of ends is one as well, so that the earlier run is by the relation what it was; and of a
 -- run that ends, the earlier end at the same state follows from the present one.
-use Prim.Native.Nat.{ℕ, suc, ◌≤◌, ◌<◌}
+use Prim.Native.Nat.{ℕ, suc, ◌≤◌}
 use mathlib.Core.Bool.{true≢false}
 use mathlib.Core.List.{List}
 use mathlib.Core.Path.{◌≡◌, refl, sym, ap, subst}
@@ -10,7 +10,7 @@ use native.Mathlib.Omega.{arith}
 use Rattle.calculus.specs.Term.{Term}
 use Rattle.calculus.specs.Book.{Book, View, bodies}
 use Rattle.calculus.specs.Run.{End, spent, at_value, at_stuck, too_long, Ends, ends_value, ends_stuck, ends_spent, ends_long}
-use Rattle.calculus.specs.Outcomes.{grant, Ran, run_over}
+use Rattle.calculus.specs.Outcomes.{grant, Ran}
 use Rattle.calculus.specs.Runs.{Runs, caller_refused, work_refused, state_refused, unread, ended}
 use Rattle.calculus.specs.Earlier as earlier
 use Rattle.calculus.specs.Changes.{Becomes, now_value, now_stuck, still_spent, as_before, OneForOne, EndChanged, refused_alike, ended_alike, LastStep}

@@ -2,7 +2,7 @@
 -- part is a value; and the same under every substitution, if the bodies that names unfold to are closed. Each by induction on the step.
 use Prim.Native.Nat.{ℕ}
 use mathlib.Core.Path.{◌≡◌, refl, ap}
-use Rattle.calculus.specs.Term.{Term, app, castdown, mu, name}
+use Rattle.calculus.specs.Term.{Term, app, castdown, mu}
 use Rattle.calculus.specs.Book.{View}
 use Rattle.calculus.specs.Rules.{◌⊩◌⟶◌, s_beta, s_castdownup, s_app, s_castdown, s_mu, s_name, Value, v_star, v_lam, v_pi, v_castup}
 use Rattle.calculus.proofs.Parallel.{traverse, sub}

@@ -14,7 +14,6 @@ use Rattle.calculus.specs.Safety.{Only, Canonical}
 use Rattle.calculus.proofs.Bridge.{substitute_raise}
 use Rattle.calculus.proofs.Books.{types_within, body_of}
 use Rattle.calculus.proofs.Reduction.{determinism, value_rests}
-use Rattle.calculus.proofs.Along.{Closed}
 use Rattle.calculus.proofs.Substitution.{substitution, anywhere}
 use Rattle.calculus.proofs.Types.{Sound}
 

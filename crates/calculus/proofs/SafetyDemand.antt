@@ -9,12 +9,12 @@ use mathlib.Core.Path.{◌≡◌, sym, ◌∙◌, subst}
 use native.Mathlib.Decide.{dec_le}
 use native.Mathlib.Omega.{arith}
 use Rattle.calculus.specs.Term.{Term, size}
-use Rattle.calculus.specs.Words.{words, Worded, Codes, longest}
+use Rattle.calculus.specs.Words.{Worded, Codes, longest}
 use Rattle.calculus.specs.Book.{Book, bodies}
 use Rattle.calculus.specs.Rules.{◌∣◌∣◌⊢◌⦂◌}
 use Rattle.calculus.specs.Growing.{GrownFrom, Grown}
 use Rattle.calculus.specs.Run.{State, state_zero, state_suc, End, at_stuck, Ends, ends_value, ends_stuck, ends_spent, ends_long}
-use Rattle.calculus.specs.Outcomes.{check_over, Desk, grant, Ran, run_over}
+use Rattle.calculus.specs.Outcomes.{Desk, grant, Ran, run_over}
 use Rattle.calculus.specs.Runs.{Runs, caller_refused, work_refused, state_refused, unread, ended}
 use Rattle.calculus.specs.Safety.{Only, Safe, Safely, caller_refused as caller-refused', work_refused as work-refused', state_refused as state-refused', ended as ended', SafeRun, Demand3}
 use Rattle.calculus.proofs.Coding.{worded, words_injective, codes_one}

@@ -1,22 +1,21 @@
 -- Shares of the desk. A run lowers the allowance of its caller by its steps and no other; and what its caller sees of it depends on the
 -- desk through that allowance alone. Both then hold of a sequence, call by call.
 use Prim.Native.Nat.{ℕ, zero, suc, ◌+◌, ◌-◌, min}
-use mathlib.Core.Bool.{Bool, true, false, cond, true≢false}
-use mathlib.Core.List.{List, [], ◌∷◌, map}
+use mathlib.Core.Bool.{Bool, true, false, true≢false}
+use mathlib.Core.List.{List, [], ◌∷◌}
 use mathlib.Core.Logic.{◌≢◌}
 use mathlib.Core.Path.{◌≡◌, refl, sym, ap, ap₂, ◌∙◌}
 use native.Mathlib.Omega.{arith}
 use lib.Dec.{eqb, eqb→eq, eqb_refl}
 use lib.Seq.{get_or-set_other}
-use Rattle.calculus.specs.Term.{Term}
 use Rattle.calculus.specs.Answer.{Answer, ok, refused}
 use Rattle.calculus.specs.Words.{words}
 use Rattle.calculus.specs.Book.{View, bodies}
 use Rattle.calculus.specs.Step.{step}
 use Rattle.calculus.specs.Run.{Ended, Ends, run_from}
-use Rattle.calculus.specs.Outcomes.{run_room, begun, cleared, Desk, allowance_of, lowered, Ran, course, ran, run_by, run}
+use Rattle.calculus.specs.Outcomes.{run_room, begun, cleared, Desk, allowance_of, lowered, Ran, course, ran, run_by}
 use Rattle.calculus.specs.Runs.{Runs, caller_refused, work_refused, state_refused, unread, ended}
-use Rattle.calculus.specs.Shares.{Call, served, served_all, desk_after, of_caller, own_calls, own_entries, steps, all_steps, Seen, seen_by, SeesAll, all_seen, Conserved, Unmoved, Shares}
+use Rattle.calculus.specs.Shares.{Call, served, served_all, desk_after, of_caller, own_calls, steps, all_steps, Seen, seen_by, SeesAll, all_seen, Conserved, Shares}
 use Rattle.calculus.proofs.Comparisons.{passed}
 use Rattle.calculus.proofs.RunDemand.{run_runs}
 

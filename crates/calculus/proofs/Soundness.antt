@@ -1,15 +1,15 @@
 -- A grown book is sound: what is added was typed for its owner, and so with all bodies open; its type has type star there; and what was
 -- stored before is typed over the longer book as it was.
-use Prim.Native.Nat.{ℕ, ◌≤◌, ◌<◌}
-use mathlib.Core.List.{[], ◌∷◌, ◌++◌, append_assoc, append-nil}
+use Prim.Native.Nat.{ℕ}
+use mathlib.Core.List.{[], ◌∷◌, ◌++◌}
 use mathlib.Core.Logic.{◌⊎◌, inl, inr}
 use mathlib.Core.Option.{some, none-ne-some}
-use mathlib.Core.Path.{◌≡◌, refl, sym, subst}
+use mathlib.Core.Path.{◌≡◌, subst}
 use native.Mathlib.Omega.{arith}
 use lib.ListN.{length}
 use Rattle.calculus.specs.Term.{Term, star}
 use Rattle.calculus.specs.Words.{Scoped}
-use Rattle.calculus.specs.Book.{Definition, Book, View, ◌⊆◌, view, types, bodies, seen}
+use Rattle.calculus.specs.Book.{Definition, Book, View, ◌⊆◌, view, types, bodies}
 use Rattle.calculus.specs.Rules.{◌∣◌∣◌⊢◌⦂◌}
 use Rattle.calculus.specs.Limit.{◌∣◌∣◌⊢⟨◌⟩◌⦂◌}
 use Rattle.calculus.specs.Growing.{GrownFrom, nothing_added, one_added, Grown}

@@ -1,7 +1,7 @@
 -- Kept terms: two words a node. So a term kept at a node of a slice has its word and its length there, its first part at the next
 -- node, its second behind the first; and a list begins with the kept words of one term only, of those whose indices have words of their
 -- own.
-use Prim.Native.Nat.{ℕ, suc, ◌+◌, ◌*◌, ◌-◌, ◌≤◌, ◌<◌}
+use Prim.Native.Nat.{ℕ, ◌+◌, ◌*◌, ◌≤◌}
 use mathlib.Core.List.{List, [], ◌∷◌, ◌++◌}
 use mathlib.Core.Path.{◌≡◌, refl, sym, ap, ◌∙◌}
 use native.Mathlib.Nat.{add-zero}
@@ -12,7 +12,7 @@ use Rattle.calculus.specs.Term.{Term, var, star, app, lam, pi, castup, castdown,
 use Rattle.calculus.specs.Words.{emit, words, Worded}
 use Rattle.calculus.proofs.Coding.{words_injective, size_positive}
 use Rattle.term.specs.Kept.{keep, kept, Lies, word_at, length_at}
-use Rattle.term.proofs.Nodes.{Two, keep_two, size_two}
+use Rattle.term.proofs.Nodes.{Two, keep_two}
 
 -- Whatever the two words of a node are.
 behind_node : {w n : ℕ} {j k : List ℕ} → j ≡ k → ◌≡◌ {A = List ℕ} (w ∷ n ∷ j) (w ∷ n ∷ k)

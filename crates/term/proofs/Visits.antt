@@ -2,15 +2,11 @@
 -- variant, most often only by the number of the variant, its tag. Only a variable needs more than that: for every other variant the
 -- tag tells how the tests end and what is bound in a second part.
 use Prim.Native.Nat.{ℕ, suc, ◌<◌}
-use mathlib.Core.Bool.{Bool, true, false, not, true≢false}
-use mathlib.Core.List.{List, [], ◌∷◌}
-use mathlib.Core.Logic.{inl, inr}
-use mathlib.Core.Path.{◌≡◌, refl, sym, ◌∙◌, subst}
+use mathlib.Core.Bool.{Bool, true, false, true≢false}
+use mathlib.Core.Logic.{◌⊎◌, inl, inr}
+use mathlib.Core.Path.{◌≡◌, refl}
 use borrow.Author.Tests.{lt-ltb}
-use lib.Dec.{T, leb, ltb, eqb, ltb→lt}
-use lib.ListN.{get_or}
-use types.Run.{OneOf}
-use denote.Enum.Declared.{tag_of}
+use lib.Dec.{T, leb, ltb, ltb→lt}
 use Rattle.calculus.specs.Answer.{ok, refused, ◌>>=◌, ◌>>◌, require, no_meaning, level_65, unbound}
 use Rattle.calculus.specs.Meaning as calculus
 use Rattle.calculus.specs.Meaning.{a_variable, binds}
@@ -20,7 +16,6 @@ use Rattle.term.specs.declared.word.Meaning.{Meaning}
 use Rattle.term.specs.declared.word.Meaning.TheVariants.{Star, CastDown, Application, CastUp, Abstraction, Product, Recursion, Variable, Nothing, Name}
 use Rattle.term.specs.Word.{meaning_of, second}
 use Rattle.term.specs.Subterms.{inside, pending}
-use Rattle.term.specs.contracts.word.Meaning.{the_type}
 
 module _ (m : calculus.Meaning) (room b p : ℕ) where
   pub meaningless : means m ≡ false → refused no_meaning p ≡ test m (pending room b) p
@@ -64,112 +59,68 @@ variable_needs i n b e more = rw (e, more) refl
 pub nothing_needs : (m : calculus.Meaning) (n b : ℕ) → means m ≡ false → b < n → leb n b ≡ inside m b
 nothing_needs m n b e few = rw (e, gt_leb n b few) refl
 
--- The place of a variant in its enum.
-abbrev pub tag : Meaning → ℕ
-tag = tag_of the_type
-
--- What holds at each of some numbers holds at one of them.
-abbrev pub Each : (ℕ → Type 0) → List ℕ → Type 0
-Each P [] = Unit
-Each P (k ∷ ks) = P k × Each P ks
-
-pub at_one : (P : ℕ → Type 0) (ks : List ℕ) → Each P ks → (x : ℕ) → OneOf ks x → P x
-at_one P [] h x e = absurd e
-at_one P (k ∷ []) h x e = subst P (sym e) h.0
-at_one P (k ∷ k' ∷ ks) h x (inl e) = subst P (sym e) h.0
-at_one P (k ∷ k' ∷ ks) h x (inr r) = at_one P (k' ∷ ks) h.1 x r
-
-late : (m : Meaning) → T (leb 8 (tag m)) → means (meaning_of m) ≡ false
-unfolding means
-late Star h = elim h [ ]
-late CastDown h = elim h [ ]
-late Application h = elim h [ ]
-late CastUp h = elim h [ ]
-late Abstraction h = elim h [ ]
-late Product h = elim h [ ]
-late Recursion h = elim h [ ]
-late (Variable i) h = elim h [ ]
-late Nothing h = refl
-late (Name i) h = refl
-
 -- Of two variants the words are not read: those that mean nothing, and names.
-pub unread : (m : Meaning) → OneOf (8 ∷ 9 ∷ []) (tag m) → means (meaning_of m) ≡ false
-unread m one = late m (at_one (λ t. T (leb 8 t)) (8 ∷ 9 ∷ []) (tt, (tt, tt)) (tag m) one)
-
-pub meant : (m : Meaning) → T (not (leb 8 (tag m))) → T (means (meaning_of m))
+pub unread : (m : Meaning) → (m ≡ Nothing) ⊎ ((i : ℕ) × (m ≡ Name i)) → means (meaning_of m) ≡ false
 unfolding means
-meant Star h = tt
-meant CastDown h = tt
-meant Application h = tt
-meant CastUp h = tt
-meant Abstraction h = tt
-meant Product h = tt
-meant Recursion h = tt
-meant (Variable i) h = tt
-meant Nothing h = elim h [ ]
-meant (Name i) h = elim h [ ]
+unread m (inl e) = rw e refl
+unread m (inr e) = rw e.1 refl
+
+pub meant : (m : Meaning) → (m ≡ Nothing → ⊥) → ((i : ℕ) → m ≡ Name i → ⊥) → T (means (meaning_of m))
+unfolding means
+meant Star n f = tt
+meant CastDown n f = tt
+meant Application n f = tt
+meant CastUp n f = tt
+meant Abstraction n f = tt
+meant Product n f = tt
+meant Recursion n f = tt
+meant (Variable i) n f = tt
+meant Nothing n f = absurd (n refl)
+meant (Name i) n f = absurd (f i refl)
 
 -- A word of any variant but the variable is inside its binders, however many there are.
-bound_by_tag : (m : Meaning) → T (not (eqb (tag m) 7)) → (b : ℕ) → T (bound (meaning_of m) b)
+unbound_by_none : (m : Meaning) → ((i : ℕ) → m ≡ Variable i → ⊥) → (b : ℕ) → T (bound (meaning_of m) b)
 unfolding bound
-bound_by_tag Star h b = tt
-bound_by_tag CastDown h b = tt
-bound_by_tag Application h b = tt
-bound_by_tag CastUp h b = tt
-bound_by_tag Abstraction h b = tt
-bound_by_tag Product h b = tt
-bound_by_tag Recursion h b = tt
-bound_by_tag (Variable i) h b = elim h [ ]
-bound_by_tag Nothing h b = tt
-bound_by_tag (Name i) h b = tt
-
-pub no_variable : (m : Meaning) → OneOf (0 ∷ 1 ∷ 2 ∷ 3 ∷ 4 ∷ 5 ∷ 6 ∷ 8 ∷ 9 ∷ []) (tag m) → (b : ℕ) → T (bound (meaning_of m) b)
-no_variable m one =
-    bound_by_tag
-    m
-    (at_one
-    (λ t. T (not (eqb t 7)))
-    (0 ∷ 1 ∷ 2 ∷ 3 ∷ 4 ∷ 5 ∷ 6 ∷ 8 ∷ 9 ∷ [])
-    (tt, (tt, (tt, (tt, (tt, (tt, (tt, (tt, (tt, tt)))))))))
-    (tag m)
-    one)
+unbound_by_none Star f b = tt
+unbound_by_none CastDown f b = tt
+unbound_by_none Application f b = tt
+unbound_by_none CastUp f b = tt
+unbound_by_none Abstraction f b = tt
+unbound_by_none Product f b = tt
+unbound_by_none Recursion f b = tt
+unbound_by_none (Variable i) f b = absurd (f i refl)
+unbound_by_none Nothing f b = tt
+unbound_by_none (Name i) f b = tt
 
 -- A word of any variant that is read, but the variable, stands anywhere.
-pub anywhere : (m : Meaning) → OneOf (0 ∷ 1 ∷ 2 ∷ 3 ∷ 4 ∷ 5 ∷ 6 ∷ []) (tag m) → (b : ℕ) → inside (meaning_of m) b ≡ true
-anywhere m one b = rw (passed (means n) (meant m neither.0), passed (bound n b) (bound_by_tag m neither.1 b)) refl
-  where
-    n : calculus.Meaning
-    n = meaning_of m
+pub anywhere : (m : Meaning)
+    → ((i : ℕ) → m ≡ Variable i → ⊥)
+    → (m ≡ Nothing → ⊥)
+    → ((i : ℕ) → m ≡ Name i → ⊥)
+    → (b : ℕ)
+    → inside (meaning_of m) b ≡ true
+anywhere m v n f b = rw (passed (means (meaning_of m)) (meant m n f), passed (bound (meaning_of m) b) (unbound_by_none m v b)) refl
 
-    neither : T (not (leb 8 (tag m))) × T (not (eqb (tag m) 7))
-    neither =
-        at_one
-        (λ t. T (not (leb 8 t)) × T (not (eqb t 7)))
-        (0 ∷ 1 ∷ 2 ∷ 3 ∷ 4 ∷ 5 ∷ 6 ∷ [])
-        ((tt, tt), ((tt, tt), ((tt, tt), ((tt, tt), ((tt, tt), ((tt, tt), ((tt, tt), tt)))))))
-        (tag m)
-        one
-
--- What each variant binds in a second part, in the order of the enum.
-abbrev pub seconds : List ℕ
-seconds = 0 ∷ 0 ∷ 0 ∷ 0 ∷ 1 ∷ 1 ∷ 1 ∷ 0 ∷ 0 ∷ 0 ∷ []
-
-second_of : (m : Meaning) → get_or seconds (tag m) 0 ≡ second (binds (meaning_of m))
+-- What each variant binds in a second part: the variants of three words bind one variable.
+pub one_bound : (m : Meaning) → (m ≡ Abstraction) ⊎ ((m ≡ Product) ⊎ (m ≡ Recursion)) → 1 ≡ second (binds (meaning_of m))
 unfolding binds
-second_of Star = refl
-second_of CastDown = refl
-second_of Application = refl
-second_of CastUp = refl
-second_of Abstraction = refl
-second_of Product = refl
-second_of Recursion = refl
-second_of (Variable i) = refl
-second_of Nothing = refl
-second_of (Name i) = refl
+one_bound m (inl e) = rw e refl
+one_bound m (inr (inl e)) = rw e refl
+one_bound m (inr (inr e)) = rw e refl
 
--- An arm for several variants that bind alike.
-pub second_by_tag : (m : Meaning) (k : ℕ) (tags : List ℕ)
-    → Each (λ t. k ≡ get_or seconds t 0) tags
-    → OneOf tags (tag m)
-    → k ≡ second (binds (meaning_of m))
-second_by_tag m k tags each one = at_one (λ t. k ≡ get_or seconds t 0) tags each (tag m) one ∙ second_of m
+pub none_bound : (m : Meaning)
+    → (m ≡ Abstraction → ⊥)
+    → (m ≡ Product → ⊥)
+    → (m ≡ Recursion → ⊥)
+    → 0 ≡ second (binds (meaning_of m))
+unfolding binds
+none_bound Star a p r = refl
+none_bound CastDown a p r = refl
+none_bound Application a p r = refl
+none_bound CastUp a p r = refl
+none_bound Abstraction a p r = absurd (a refl)
+none_bound Product a p r = absurd (p refl)
+none_bound Recursion a p r = absurd (r refl)
+none_bound (Variable i) a p r = refl
+none_bound Nothing a p r = refl
+none_bound (Name i) a p r = refl
