@@ -1,4 +1,6 @@
 // A book of definitions in a lent slice (document 02, 2.3): the parts of the slice in which a definition is stored.
+#![tactic(auto)]
+
 ghost use Rattle.std.specs.Prelude.{◌≡◌};
 ghost use Rattle.calculus.specs.Book.{Definition};
 ghost use Rattle.calculus.specs.Words.{words};
