@@ -1,5 +1,5 @@
 // One request a line in, one answer a line out, each by itself: `check LIMIT | WORDS`, `run BUDGET ALLOWANCE | WORDS`,
 // `kinds BUDGET ALLOWANCE | WORDS`, `part NUMBER | WORDS`.
-fn main() {
-    session::serve(b"batch", false);
+fn main(rt: HostRuntime) {
+    session::serve(&rt, b"batch", false);
 }

@@ -4,7 +4,7 @@ ghost use Rattle.text.specs.Appending.{Appends};
 ghost use Rattle.text.specs.Texts.{ascii, decimal};
 ghost use Rattle.protocol.specs.Outputs.{one_more, Flushed, Ready, Roomy};
 
-use libc::{STDERR_FILENO, STDOUT_FILENO};
+use streams::Devices;
 
 // Room for the longest line: a thousand words, and a path.
 const LONGEST: usize = 16384;
@@ -54,13 +54,13 @@ impl Output {
     }
 
     // With the buffer written out. Where that failed once, nothing is written behind the gap.
-    pub fn flushed(self, out: &[u8]) -> Self
+    pub fn flushed<R: Devices>(self, rt: &R, out: &[u8]) -> Self
         ensures { Flushed self out.now result }
     {
         if self.error != 0 {
             return self;
         }
-        let sent = streams::write_all(STDOUT_FILENO, text::filled(out, self.filled));
+        let sent = streams::write_all(rt, &mut rt.output(), text::filled(out, self.filled));
         if sent.error == 0 {
             return Output {
                 filled: 0,
@@ -79,7 +79,7 @@ impl Output {
     }
 
     // Written out where the longest line might not fit.
-    pub fn with_room(self, out: &[u8]) -> Self
+    pub fn with_room<R: Devices>(self, rt: &R, out: &[u8]) -> Self
         ensures { Roomy self out.now result }
     {
         let filled = self.filled;
@@ -88,35 +88,42 @@ impl Output {
                 return self;
             }
         }
-        self.flushed(out)
+        self.flushed(rt, out)
     }
 
     // Written out before a run that is granted so many steps that those before it should not wait for it.
-    pub fn ready_for(self, grant: u32, out: &[u8]) -> Self
+    pub fn ready_for<R: Devices>(self, rt: &R, grant: u32, out: &[u8]) -> Self
         ensures { Ready self grant out.now result }
     {
         if LONG <= grant {
-            return self.flushed(out);
+            return self.flushed(rt, out);
         }
         self
     }
 
     // Says on standard error why the rest is not answered, and which is the first without an answer:
     // `PROGRAM: answered N THINGs, not THING N+1: DEVICE: ` and the system's text.
-    pub fn stopped(self, program: &[u8], thing: &[u8], device: &[u8], error: u32) {
+    pub fn stopped<R: Devices>(
+        self,
+        rt: &R,
+        program: &[u8],
+        thing: &[u8],
+        device: &[u8],
+        error: u32,
+    ) {
         let mut line = [0u8; 256];
         let answered = opening(program, b": answered ", self.written, thing, &mut line, 0);
         let front = missing(thing, sum(self.written, 1), &mut line, answered);
         let end = text::bytes(device, &mut line, front);
-        streams::say(text::filled(&line, end), error);
+        streams::say(rt, text::filled(&line, end), error);
     }
 
     // Says on standard error that all was answered and written: `PROGRAM: N THINGs answered`.
-    pub fn receipt(self, program: &[u8], thing: &[u8]) {
+    pub fn receipt<R: Devices>(self, rt: &R, program: &[u8], thing: &[u8]) {
         let mut line = [0u8; 256];
         let counted = opening(program, b": ", self.written, thing, &mut line, 0);
         let end = text::bytes(b" answered\n", &mut line, counted);
-        streams::write_all(STDERR_FILENO, text::filled(&line, end));
+        streams::write_all(rt, &mut rt.errors(), text::filled(&line, end));
     }
 }
 

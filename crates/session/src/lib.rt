@@ -18,11 +18,11 @@ ghost use Rattle.session.specs.Sessions.{
 ghost use Rattle.session.specs.declared.Session.{Session};
 
 use evaluation::Desk;
-use libc::STDIN_FILENO;
 use protocol::desk::Served;
 use protocol::output::Output;
 use protocol::request::Request;
 use protocol::{answer, desk};
+use streams::Devices;
 
 // The request being read, the answers to those before it, the desk that they left, and whether it is kept.
 #[derive(Drop)]
@@ -74,34 +74,53 @@ impl Session {
     }
 
     // With the request answered, unless the answers before it cannot be written.
-    fn answered(mut self, words: &[u16], work: &mut [u16], out: &mut [u8]) -> Self
+    fn answered<R: Devices>(
+        mut self,
+        rt: &R,
+        words: &[u16],
+        work: &mut [u16],
+        out: &mut [u8],
+    ) -> Self
         ensures { Answers (place self words.now work.old out.old)
             (place result words.now work.new out.new) }
     {
-        let ready = self.output.ready_for(self.granted(), out);
+        let ready = self.output.ready_for(rt, self.granted(), out);
         if ready.error != 0 {
             self.output = ready;
             return self;
         }
         let told = self.replied(words, work, out, ready.filled);
         let desk = told.desk;
-        self.output = ready.answered(told.end).with_room(out);
+        self.output = ready.answered(told.end).with_room(rt, out);
         self.desk = desk;
         self.request = Request::new();
         self
     }
 
     // At the end of a line: the request is answered.
-    fn line_ended(mut self, words: &mut [u16], work: &mut [u16], out: &mut [u8]) -> Self
+    fn line_ended<R: Devices>(
+        mut self,
+        rt: &R,
+        words: &mut [u16],
+        work: &mut [u16],
+        out: &mut [u8],
+    ) -> Self
         ensures { Answers (line_end (place self words.old work.old out.old))
             (place result words.new work.new out.new) }
     {
         self.request = self.request.field_ended(words);
-        self.answered(words, work, out)
+        self.answered(rt, words, work, out)
     }
 
     // With the bytes line by line, and no more once an answer cannot be written.
-    fn take_all(self, input: &[u8], words: &mut [u16], work: &mut [u16], out: &mut [u8]) -> Self
+    fn take_all<R: Devices>(
+        self,
+        rt: &R,
+        input: &[u8],
+        words: &mut [u16],
+        work: &mut [u16],
+        out: &mut [u8],
+    ) -> Self
         ensures { Takes input.now (place self words.old work.old out.old)
             (place result words.new work.new out.new) }
     {
@@ -116,7 +135,7 @@ impl Session {
                 return now;
             }
             at += 1;
-            now = now.line_ended(words, work, out);
+            now = now.line_ended(rt, words, work, out);
             if now.output.error != 0 {
                 return now;
             }
@@ -125,35 +144,48 @@ impl Session {
     }
 
     // With what was read at one go, and every answer to it written out.
-    fn take_chunk(self, input: &[u8], words: &mut [u16], work: &mut [u16], out: &mut [u8]) -> Self
+    fn take_chunk<R: Devices>(
+        self,
+        rt: &R,
+        input: &[u8],
+        words: &mut [u16],
+        work: &mut [u16],
+        out: &mut [u8],
+    ) -> Self
         ensures { TakesChunk input.now (place self words.old work.old out.old)
             (place result words.new work.new out.new) }
     {
-        let mut after = self.take_all(input, words, work, out);
-        after.output = after.output.flushed(out);
+        let mut after = self.take_all(rt, input, words, work, out);
+        after.output = after.output.flushed(rt, out);
         after
     }
 
     // At the end of the input: a last line with no line feed is answered too.
-    fn finished(self, words: &mut [u16], work: &mut [u16], out: &mut [u8]) -> Self
+    fn finished<R: Devices>(
+        self,
+        rt: &R,
+        words: &mut [u16],
+        work: &mut [u16],
+        out: &mut [u8],
+    ) -> Self
         ensures { Finishes (place self words.old work.old out.old)
             (place result words.new work.new out.new) }
     {
         if !self.request.begun() {
             return self;
         }
-        let mut after = self.line_ended(words, work, out);
-        after.output = after.output.flushed(out);
+        let mut after = self.line_ended(rt, words, work, out);
+        after.output = after.output.flushed(rt, out);
         after
     }
 }
 
 // Says what became of the answers: a receipt where all are written.
-fn conclude(program: &[u8], output: Output) {
+fn conclude<R: Devices>(rt: &R, program: &[u8], output: Output) {
     if output.error != 0 {
-        return output.stopped(program, b"request", b"standard output", output.error);
+        return output.stopped(rt, program, b"request", b"standard output", output.error);
     }
-    output.receipt(program, b"request");
+    output.receipt(rt, program, b"request");
 }
 
 // What is read next begins where this ended, or nothing is.
@@ -164,19 +196,20 @@ struct Next {
 }
 
 // Goes on, unless the output failed.
-fn going_on(program: &[u8], session: Session) -> Next
+fn going_on<R: Devices>(rt: &R, program: &[u8], session: Session) -> Next
     ensures { result ≡ record { session = session; over = not (eqb session.output.error 0) } }
 {
     let output = session.output;
     let over = output.error != 0;
     if over {
-        conclude(program, output);
+        conclude(rt, program, output);
     }
     Next { session, over }
 }
 
 // Reads once. At the end of the input, or where that cannot be read, nothing more is.
-fn turn(
+fn turn<R: Devices>(
+    rt: &R,
     program: &[u8],
     session: Session,
     input: &mut [u8],
@@ -187,32 +220,34 @@ fn turn(
     ensures { Turns (place session words.old work.old out.old) result.over
         (place result.session words.new work.new out.new) }
 {
-    let got = streams::read(STDIN_FILENO, input);
+    let got = streams::read(rt, &mut rt.input(), input);
     if got.error != 0 {
         session
             .output
-            .stopped(program, b"request", b"standard input", got.error);
+            .stopped(rt, program, b"request", b"standard input", got.error);
         return Next {
             session,
             over: true,
         };
     }
     if got.count == 0 {
-        let last = session.finished(words, work, out);
-        conclude(program, last.output);
+        let last = session.finished(rt, words, work, out);
+        conclude(rt, program, last.output);
         return Next {
             session: last,
             over: true,
         };
     }
     going_on(
+        rt,
         program,
-        session.take_chunk(text::filled(input, got.count), words, work, out),
+        session.take_chunk(rt, text::filled(input, got.count), words, work, out),
     )
 }
 
 // Answers to the end of the input. A proved loop has to end: it counts down from a number that no input uses up.
-fn serve_on(
+fn serve_on<R: Devices>(
+    rt: &R,
     program: &[u8],
     keeps: bool,
     input: &mut [u8],
@@ -227,7 +262,7 @@ fn serve_on(
     let mut turns = u64::MAX;
     while 0 < turns {
         turns -= 1;
-        let after = turn(program, now, input, words, work, out);
+        let after = turn(rt, program, now, input, words, work, out);
         if after.over {
             return;
         }
@@ -236,10 +271,12 @@ fn serve_on(
 }
 
 // The same with slices of its own.
-pub fn serve(program: &[u8], keeps: bool) {
+pub fn serve<R: Devices>(rt: &R, program: &[u8], keeps: bool) {
     let mut input = io::large_buffer();
     let mut words = [0u16; 1025];
     let mut work = [0u16; 1048576];
     let mut out = io::large_buffer();
-    serve_on(program, keeps, &mut input, &mut words, &mut work, &mut out);
+    serve_on(
+        rt, program, keeps, &mut input, &mut words, &mut work, &mut out,
+    );
 }

@@ -1,11 +1,14 @@
 // Reading and writing that lose nothing: a call that a signal interrupts is made again, one that would block is made again after a
 // pause, and any other failure is answered by its number, with how many bytes were moved before it.
+#![tactic(auto)]
+
 ghost use Rattle.std.specs.Prelude.{◌<◌, ◌≤◌, ◌||◌, ◌≡◌, eqb, length};
 ghost use Rattle.io.specs.Counts.{IsPrefixLen};
 ghost use Rattle.streams.specs.Feeds.{feeds};
 
-use libc::STDERR_FILENO;
-use libc::types::timespec;
+use std::io::{Cursor, Error, Read, Stderr, Stdin, Stdout, Write};
+use std::thread;
+use std::time::{Clock, Duration};
 
 // The system's numbers: EINTR, EIO and EAGAIN, which is also EWOULDBLOCK.
 const INTERRUPTED: u32 = 4;
@@ -13,6 +16,42 @@ const INTERRUPTED: u32 = 4;
 const DEVICE: u32 = 5;
 
 const BLOCKED: u32 = 11;
+
+// What a program reads, what it writes, where it says what failed, and the clock by which it waits.
+pub trait Devices: Clock {
+    type Input: Read + Drop;
+
+    type Output: Write + Drop;
+
+    type Errors: Write + Drop;
+
+    fn input(&self) -> Self::Input;
+
+    fn output(&self) -> Self::Output;
+
+    fn errors(&self) -> Self::Errors;
+}
+
+// The process's own.
+impl Devices for HostRuntime {
+    type Input = Stdin;
+
+    type Output = Stdout;
+
+    type Errors = Stderr;
+
+    fn input(&self) -> Stdin {
+        self.stdin()
+    }
+
+    fn output(&self) -> Stdout {
+        self.stdout()
+    }
+
+    fn errors(&self) -> Stderr {
+        self.stderr()
+    }
+}
 
 // How many bytes were moved, and the system's number of what stopped it, 0 for nothing.
 #[derive(Drop)]
@@ -22,16 +61,8 @@ pub struct Transfer {
 }
 
 // Waits for a millisecond, and costs no core.
-fn pause() {
-    let asked = timespec {
-        tv_sec: 0,
-        tv_nsec: 1000000,
-    };
-    let mut left = timespec {
-        tv_sec: 0,
-        tv_nsec: 0,
-    };
-    libc::nanosleep(&asked, &mut left);
+fn pause<C: Clock>(clock: &C) {
+    thread::sleep(clock, Duration::from_millis(1));
 }
 
 // An error's number. An error that has none counts as one of the device.
@@ -41,50 +72,51 @@ fn number(error: i32) -> u32
     if 0 < error { error as u32 } else { DEVICE }
 }
 
-// The number of the error that the system told last, just after a call that failed.
-pub fn last_error() -> u32
+// The number of the error that a call just answered.
+pub fn last_error(failed: Error) -> u32
     ensures { 0 < result }
 {
-    number(os::errno())
+    match failed.raw_os_error() {
+        Some(error) => number(error),
+        None => DEVICE,
+    }
 }
 
 // The number of the failure that a call just answered: a write that takes nothing and says no error failed too.
-fn failure(answer: isize) -> u32
+fn failure(answer: std::io::Result<usize>) -> u32
     ensures { 0 < result }
 {
-    if answer < 0 {
-        number(os::errno())
-    } else {
-        DEVICE
+    match answer {
+        Ok(_) => DEVICE,
+        Err(failed) => last_error(failed),
     }
 }
 
 // Whether the call is to be made again. Where it would have blocked, that is after a pause.
-fn again(error: u32) -> bool
+fn again<C: Clock>(clock: &C, error: u32) -> bool
     ensures { result ≡ eqb error 11 || eqb error 4 }
 {
     if error == BLOCKED {
-        pause();
+        pause(clock);
         return true;
     }
     error == INTERRUPTED
 }
 
-// One write of at least one byte. A proved loop has to end: it counts down from a number that no device uses up.
-fn write_some(fd: i32, bytes: &[u8]) -> Transfer
+// One write of at least one byte. A proved loop has to end: it counts to a number that no device uses up.
+fn write_some<C: Clock, W: Write>(clock: &C, to: &mut W, bytes: &[u8]) -> Transfer
     ensures within { result.count ≤ length bytes.now }
     ensures some { result.error ≡ 0 → 0 < result.count }
 {
-    let mut turns = u64::MAX;
-    while 0 < turns {
-        turns -= 1;
-        let put = libc::write(fd, bytes);
-        let count = io::count(put, bytes);
-        if 0 < count {
-            return Transfer { count, error: 0 };
+    for _ in 0..u64::MAX {
+        let put = to.write(bytes);
+        if let Ok(count) = put {
+            if 0 < count {
+                return Transfer { count, error: 0 };
+            }
         }
         let error = failure(put);
-        if !again(error) {
+        if !again(clock, error) {
             return Transfer { count: 0, error };
         }
     }
@@ -95,13 +127,13 @@ fn write_some(fd: i32, bytes: &[u8]) -> Transfer
 }
 
 // Writes all of `bytes`, or as many as the device takes.
-pub fn write_all(fd: i32, bytes: &[u8]) -> Transfer
+pub fn write_all<C: Clock, W: Write>(clock: &C, to: &mut W, bytes: &[u8]) -> Transfer
     ensures within { result.count ≤ length bytes.now }
     ensures all { result.error ≡ 0 → result.count ≡ length bytes.now }
 {
     let mut count = 0;
     while count < bytes.len() {
-        let put = write_some(fd, &bytes[count..]);
+        let put = write_some(clock, to, &bytes[count..]);
         if put.error != 0 {
             return Transfer {
                 count,
@@ -114,21 +146,16 @@ pub fn write_all(fd: i32, bytes: &[u8]) -> Transfer
 }
 
 // One read: no bytes and no error at the end of the input.
-pub fn read(fd: i32, buffer: &mut [u8]) -> Transfer
+pub fn read<C: Clock, R: Read>(clock: &C, from: &mut R, buffer: &mut [u8]) -> Transfer
     ensures { IsPrefixLen result.count buffer.new }
 {
-    let mut turns = u64::MAX;
-    while 0 < turns {
-        turns -= 1;
-        let got = libc::read(fd, buffer);
-        if 0 <= got {
-            return Transfer {
-                count: io::count(got, buffer),
-                error: 0,
-            };
+    for _ in 0..u64::MAX {
+        let got = from.read(buffer);
+        if let Ok(count) = got {
+            return Transfer { count, error: 0 };
         }
         let error = failure(got);
-        if !again(error) {
+        if !again(clock, error) {
             return Transfer { count: 0, error };
         }
     }
@@ -139,12 +166,12 @@ pub fn read(fd: i32, buffer: &mut [u8]) -> Transfer
 }
 
 // Reads until the buffer is full, the input ends or a read fails.
-pub fn read_full(fd: i32, buffer: &mut [u8]) -> Transfer
+pub fn read_full<C: Clock, R: Read>(clock: &C, from: &mut R, buffer: &mut [u8]) -> Transfer
     ensures { IsPrefixLen result.count buffer.new }
 {
     let mut count = 0;
     while count < buffer.len() {
-        let got = read(fd, &mut buffer[count..]);
+        let got = read(clock, from, &mut buffer[count..]);
         if got.error != 0 {
             return Transfer {
                 count,
@@ -174,14 +201,49 @@ pub fn lines(bytes: &[u8]) -> usize
     count
 }
 
-// Writes a line to standard error: what failed, and the system's text for `error` where that is still the last error, or its number.
-pub fn say(what: &[u8], error: u32) {
-    if last_error() == error {
-        os::fail(what);
-        return;
+// How long the text before the last ` (` is, or 0: std ends the system's text for an error by ` (os error N)`.
+fn before_number(text: &[u8]) -> usize
+    ensures { result ≤ length text.now }
+{
+    let mut end = text.len();
+    while 0 < end {
+        end -= 1;
+        if text[end] == b'(' {
+            return if 0 < end { end - 1 } else { 0 };
+        }
     }
-    write_all(STDERR_FILENO, what);
-    write_all(STDERR_FILENO, b": error ");
-    io::print_decimal(STDERR_FILENO, error as u64);
-    write_all(STDERR_FILENO, b"\n");
+    0
+}
+
+// The system's text for an error at the start of `out`, where it fits, and its length.
+fn described(error: u32, out: &mut [u8; 320]) -> usize
+    ensures { result ≤ 320 }
+{
+    let Ok(code) = i32::try_from(error) else {
+        return 0;
+    };
+    let mut text = Cursor::new([0u8; 320]);
+    if write!(text, "{}", Error::from_raw_os_error(code)).is_err() {
+        return 0;
+    }
+    *out = text.into_inner();
+    before_number(out)
+}
+
+// Writes a line to standard error: what failed, and the system's text for `error`, or its number.
+pub fn say<R: Devices>(rt: &R, what: &[u8], error: u32) {
+    let mut errors = rt.errors();
+    let mut text = [0u8; 320];
+    let count = described(error, &mut text);
+    write_all(rt, &mut errors, what);
+    if count != 0 {
+        write_all(rt, &mut errors, b": ");
+        write_all(rt, &mut errors, &text[..count]);
+    } else {
+        let mut digits = [0u8; 20];
+        let count = io::decimal(error as u64, &mut digits);
+        write_all(rt, &mut errors, b": error ");
+        write_all(rt, &mut errors, &digits[..count]);
+    }
+    write_all(rt, &mut errors, b"\n");
 }

@@ -1,5 +1,7 @@
 // Text for the programs: bytes, numbers and lists of words appended to a buffer. Each function answers the place behind what it
 // wrote, and drops what does not fit: the callers keep room for their longest line.
+#![tactic(auto)]
+
 ghost use Rattle.std.specs.Prelude.{◌≡◌, [], ◌∷◌, ◌++◌, take};
 ghost use Rattle.text.specs.Appending.{Appends};
 ghost use Rattle.text.specs.Texts.{decimal, list, spaced};
