@@ -1,0 +1,16 @@
+-- `copy_nodes` meets its contract: the copy answers in words, of which two are a node.
+use borrow.Author.Rules.{rules}
+use Rattle.kept.proofs.Composed.{puts_copied, puts_over}
+use Rattle.kept.proofs.rewriting.copy_nodes.Goals as goal
+use Rattle.kept.proofs.rewriting.copy_nodes.Goals.{After-copy, In-Full-1}
+
+pub returns-in-Full : goal.returns-in-Full
+returns-in-Full c =
+    puts_over c.copy.ensures c.enum_told-1.given.1 c.over.ensures
+
+pub returns-in-To : goal.returns-in-To
+returns-in-To c =
+    puts_copied
+    c.copy.ensures
+    c.in-To.is
+    c.requires.1
