@@ -1,5 +1,4 @@
 use Prim.Native.Nat.{◌+◌, ◌*◌, ◌-◌, ◌≤◌}
-use mathlib.Core.Logic.{⊎_elim}
 use mathlib.Core.Path.{◌≡◌, refl, ◌∙◌, ap}
 use native.Mathlib.Omega.{arith}
 use lib.ListN.{length}
@@ -9,7 +8,7 @@ use borrow.Rule.Slice.PartMut.{put_mid}
 use Rattle.calculus.specs.Outcomes.{cleared}
 use Rattle.kept.proofs.Zeros.{cleared_none, cleared_length, cleared_more, part_clear}
 use Rattle.kept.proofs.clearing.clear.Goals as goal
-use Rattle.kept.proofs.clearing.clear.Goals.{After-slice_known-1}
+use Rattle.kept.proofs.clearing.clear.Goals.{then-not-is_clear, else-not-is_clear}
 
 pub loop-block-init : goal.loop-block-init
 loop-block-init c = (omega arith, refl, cleared_none c.args.work.now)
@@ -23,10 +22,10 @@ loop-block-preserved c =
     let next : from + 512 ≡ 512 * (l.block + 1) = omega arith in
     let h : c.if-not-is_clear.work ≡ cleared (from + 512) work =
     cleared_more from (from + 512) work (omega arith) inside l.invariant.2
-    (⊎_elim
-    (λ w. w.5 ∙ ap (put_mid from (from + 512 - from) l.work) w.2.ensures)
-    (λ w. w.1 ∙ part_clear from (from + 512 - from) l.work (c.is_clear.ensures.0 (not-false _ w.0.left)))
-    c.if-not-is_clear.branch)
+    (elim c.if-not-is_clear.branch [
+      then-not-is_clear w ↦ w.work-is ∙ ap (put_mid from (from + 512 - from) l.work) w.fill.ensures
+      | else-not-is_clear w ↦ w.work-is ∙ part_clear from (from + 512 - from) l.work (c.is_clear.ensures.0 (not-false _ w.if-not-is_clear.false))
+    ])
     in
     (omega arith, ap length h ∙ cleared_length (from + 512) work inside, h ∙ ap (λ k. cleared k work) next)
 

@@ -1,12 +1,13 @@
 use Prim.Native.Nat.{◌≤◌, ◌-◌}
 use mathlib.Core.Bool.{true}
-use mathlib.Core.Logic.{◌↔◌, ⊎_elim}
+use mathlib.Core.Logic.{◌↔◌}
 use mathlib.Core.Path.{◌≡◌}
 use native.Mathlib.Omega.{arith}
 use lib.ListN.{length}
 use borrow.Author.Rules.{rules}
 use Rattle.kept.proofs.Zeros.{Zeros, zeros_none, zeros_more, zeros_not, zeros_all}
 use Rattle.kept.proofs.clearing.is_clear.Goals as goal
+use Rattle.kept.proofs.clearing.is_clear.Goals.{then-words-i-ne0, else-words-i-ne0}
 
 pub loop-i-init : goal.loop-i-init
 loop-i-init c = (omega arith, zeros_none c.args.words.now)
@@ -16,10 +17,10 @@ loop-i-preserved c =
     let ws = c.args.words.now in
     let i = c.loop-i.i in (
       omega arith,
-      ⊎_elim
-          (λ w. zeros_not ws i w.0.true w.1)
-          (λ w. zeros_more ws i c.loop-i.invariant.1 w.0.left w.1)
-          c.if-words-i-ne0.branch,
+      elim c.if-words-i-ne0.branch [
+        then-words-i-ne0 w ↦ zeros_not ws i w.if-words-i-ne0.true w.clear-is
+        | else-words-i-ne0 w ↦ zeros_more ws i c.loop-i.invariant.1 w.if-words-i-ne0.false w.clear-is
+      ],
     )
 
 pub returns : goal.returns

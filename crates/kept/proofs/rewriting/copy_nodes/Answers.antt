@@ -2,11 +2,10 @@
 use borrow.Author.Rules.{rules}
 use Rattle.kept.proofs.Composed.{puts_copied, puts_over}
 use Rattle.kept.proofs.rewriting.copy_nodes.Goals as goal
-use Rattle.kept.proofs.rewriting.copy_nodes.Goals.{After-copy, In-Full-1}
 
 pub returns-in-Full : goal.returns-in-Full
 returns-in-Full c =
-    puts_over c.copy.ensures c.enum_told-1.given.1 c.over.ensures
+    puts_over c.copy.ensures c.in-Full.is c.over.ensures
 
 pub returns-in-To : goal.returns-in-To
 returns-in-To c =

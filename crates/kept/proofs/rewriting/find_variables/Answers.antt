@@ -1,5 +1,4 @@
 use Prim.Native.Nat.{◌+◌, ◌-◌, ◌≤◌}
-use mathlib.Core.Logic.{⊎_elim}
 use mathlib.Core.Path.{◌≡◌, ◌∙◌, subst}
 use native.Mathlib.Nat.{le_refl}
 use native.Mathlib.Omega.{arith}
@@ -7,7 +6,7 @@ use borrow.Author.Rules.{rules}
 use Rattle.kept.specs.Rewriting.{FirstVariables}
 use Rattle.kept.proofs.RaiseSurvey.{found, found_none, found_here, found_behind, surveyed_none, surveyed_more}
 use Rattle.kept.proofs.rewriting.find_variables.Goals as goal
-use Rattle.kept.proofs.rewriting.find_variables.Goals.{After-shared_slice_known-1, After-shared_slice_known-in-loop-node-1, Start}
+use Rattle.kept.proofs.rewriting.find_variables.Goals.{then-source-node-ge16, else-source-node-ge16}
 
 pub loop-node-init : goal.loop-node-init
 loop-node-init c =
@@ -26,10 +25,11 @@ loop-node-preserved c =
     let m = l.node - 1 in
     let next_is : m + 1 ≡ l.node = omega (arith, c.loop-node-test.true) in
     let now : c.if-source-node-ge16.next ≡ found source c.args.to m =
-    ⊎_elim
-    (λ w. w.2 ∙ w.1.ensures ∙ found_here source m next_is l.invariant.1 c.requires.2 w.0.true)
-    (λ w. w.1 ∙ l.invariant.2 ∙ found_behind source m next_is l.invariant.1 c.requires.2 w.0.left)
-    c.if-source-node-ge16.branch in (
+    elim c.if-source-node-ge16.branch [
+      then-source-node-ge16 w ↦ w.next-is ∙ w.narrow.ensures ∙ found_here source m next_is l.invariant.1 c.requires.2 w.if-source-node-ge16.true
+      | else-source-node-ge16 w ↦ w.next-is ∙ l.invariant.2 ∙ found_behind source m next_is l.invariant.1 c.requires.2 w.if-source-node-ge16.false
+    ]
+    in (
       omega (arith, c.loop-node-test.true),
       omega (arith, l.invariant.1),
       now,

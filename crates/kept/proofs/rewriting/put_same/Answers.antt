@@ -33,7 +33,7 @@ returns-then-word-depth c =
     let p = c.put.ensures in (
       λ same. absurd (puts_moves p c.requires.0 (omega arith) same),
       λ moved e u l has.
-          let single : size e ≡ 1 = sym (c.length_at-length.ensures.1 e l) ∙ c.if-length-eq1.true in
+          let single : size e ≡ 1 = sym (c.length_at-length.ensures.value_2 e l) ∙ c.if-length-eq1.true in
           let same = kept_leaf (view e) c.args.depth u l has single (λ free. omega (arith, free, c.if-word-depth.true)) in
           puts_as p (sym same),
     )
@@ -44,7 +44,7 @@ returns-then-length-eq1 c = (λ same. refl, λ moved. absurd (moved refl))
 pub overflow_add-end : goal.overflow_add-end
 overflow_add-end c =
     let (e, subject, surveyed) = c.requires.1 in
-    record { fits = omega (arith, c.length_at-length.ensures.1 e subject.lies, surveyed.reach, surveyed.within) }
+    record { fits = omega (arith, c.length_at-length.ensures.value_2 e subject.lies, surveyed.reach, surveyed.within) }
 
 pub bounds-first-node : goal.bounds-first-node
 bounds-first-node c =
@@ -54,13 +54,13 @@ bounds-first-node c =
 pub overflow_mul-end : goal.overflow_mul-end
 overflow_mul-end c =
     let (e, subject, surveyed) = c.requires.1 in
-    record { fits = omega (arith, c.length_at-length.ensures.1 e subject.lies, surveyed.reach, surveyed.within) }
+    record { fits = omega (arith, c.length_at-length.ensures.value_2 e subject.lies, surveyed.reach, surveyed.within) }
 
 pub slice_bounds-copy_nodes-end : goal.slice_bounds-copy_nodes-end
 slice_bounds-copy_nodes-end c =
     let (e, subject, surveyed) = c.requires.1 in
     let h : 2 * (c.args.node + c.length_at-length.result) ≤ length c.args.source.now =
-    omega (arith, c.length_at-length.ensures.1 e subject.lies, lies_within subject.lies)
+    omega (arith, c.length_at-length.ensures.value_2 e subject.lies, lies_within subject.lies)
     in
     h
 
@@ -68,13 +68,13 @@ pub copy_nodes-requires : goal.copy_nodes-requires
 copy_nodes-requires c =
     let (e, subject, surveyed) = c.requires.1 in
     let l = subject.lies in
-    (c.requires.0, (size e, ap length (part_taken l (c.length_at-length.ensures.1 e l)) ∙ kept_length e))
+    (c.requires.0, (size e, ap length (part_taken l (c.length_at-length.ensures.value_2 e l)) ∙ kept_length e))
 
 pub returns-then-end-wide : goal.returns-then-end-wide
 returns-then-end-wide c =
     let a = c.args in
     let (e₀, subject, surveyed) = c.requires.1 in
-    let long = c.length_at-length.ensures.1 in
+    let long = c.length_at-length.ensures.value_2 in
     let p = puts_as c.copy_nodes.ensures (part_taken subject.lies (long e₀ subject.lies)) in (
       λ same. absurd (puts_moves p c.requires.0 (omega (arith, kept_length e₀, size_positive e₀)) same),
       λ moved e u l has.

@@ -18,17 +18,17 @@ pub raise_leaf-requires : goal.raise_leaf-requires
 raise_leaf-requires c =
     let at = (goal.at.raise_leaf-requires c).After-length_at-count in
     let (e, coded, fits) = at.requires.0 in
-    let long = at.length_at-count.ensures.1 e (lies_whole coded) in
+    let long = at.length_at-count.ensures.value_2 e (lies_whole coded) in
     ((e, subject_whole coded fits, sym long ∙ c.if-count-eq1.true), at.requires.1)
 
 pub raise_long-requires : goal.raise_long-requires
 raise_long-requires c =
     let at = (goal.at.raise_long-requires c).After-length_at-count in
     let (e, coded, fits) = at.requires.0 in
-    let long = at.length_at-count.ensures.1 e (lies_whole coded) in
+    let long = at.length_at-count.ensures.value_2 e (lies_whole coded) in
     ((e, coded, fits, long, omega (arith, long, c.if-count-eq1.false, size_positive e)), at.requires.1)
 
 pub returns-then-count-eq1 : goal.returns-then-count-eq1
 returns-then-count-eq1 c e h has =
-    let one = sym (c.length_at-count.ensures.1 e (lies_whole h)) ∙ c.if-count-eq1.true in
+    let one = sym (c.length_at-count.ensures.value_2 e (lies_whole h)) ∙ c.if-count-eq1.true in
     c.raise_leaf.ensures e (lies_whole h) has one ∙ raised_whole e h c.args.by 0

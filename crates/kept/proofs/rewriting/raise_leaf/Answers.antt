@@ -6,20 +6,18 @@ use borrow.Author.Rules.{rules}
 use lib.ListN.{length}
 use Rattle.term.proofs.Keeping.{lies_within}
 use Rattle.kept.proofs.InPlace.{free_raised, bound_raised, name_raised}
-use Rattle.kept.proofs.rewriting.raise_leaf.Reads as reads
-use Rattle.kept.proofs.rewriting.raise_leaf.Lts as lts
 use Rattle.kept.proofs.rewriting.raise_leaf.Goals as goal
 use Rattle.kept.proofs.rewriting.raise_leaf.Goals.{Start}
 
 -- The node stands in the slice.
-inside : (c : lts.Start reads.Pre reads.Post) → 2 * c.args.node < length c.args.slice.now
+inside : (c : goal.Start) → 2 * c.args.node < length c.args.slice.now
 inside c = omega (arith, lies_within c.requires.0.1.lies, c.requires.0.2)
 
 pub overflow_mul-word : goal.overflow_mul-word
-overflow_mul-word c = let h = inside c in search rules
+overflow_mul-word c = let h = inside (goal.at.overflow_mul-word c).Start in search rules
 
 pub offset_bounds-slice-node : goal.offset_bounds-slice-node
-offset_bounds-slice-node c = let h = inside c in search rules
+offset_bounds-slice-node c = let h = inside (goal.at.offset_bounds-slice-node c).Start in search rules
 
 pub bounds-slice-node : goal.bounds-slice-node
 bounds-slice-node c = inside (goal.at.bounds-slice-node c).Start

@@ -27,20 +27,18 @@ bounds-source-body c =
 
 pub put_variable-requires : goal.put_variable-requires
 put_variable-requires c =
-    let i = c.index-1.given in
-    let means = ap meaning_of (sym i.1) ∙ c.classify.ensures in
-    (c.requires.0, index_small (word_at c.args.source.now c.args.body) i.0.0 means, omega arith, c.requires.3)
+    let i = c.in-Variable.index in
+    let means = c.in-Variable.ensures in
+    (c.requires.0, index_small (word_at c.args.source.now c.args.body) i means, omega arith, c.requires.3)
 
 pub returns-in-Variable : goal.returns-in-Variable
 returns-in-Variable c e u l has coded has' =
-    let i = c.index-1.given in
-    let means = ap meaning_of (sym i.1) ∙ c.classify.ensures in
-    let same = is_variable (view e) l i.0.0 means in
+    let same = is_variable (view e) l c.in-Variable.index c.in-Variable.ensures in
     puts_as (c.put_variable.ensures u coded has') (ap (λ x. kept (substitute 0 u x)) (sym same))
 
 pub returns-then-length-eq1 : goal.returns-then-length-eq1
 returns-then-length-eq1 c e u l has coded has' =
-    let single : size e ≡ 1 = sym (c.length_at-length.ensures.1 e l) ∙ c.if-length-eq1.true in
+    let single : size e ≡ 1 = sym (c.length_at-length.ensures.value_2 e l) ∙ c.if-length-eq1.true in
     let word_is = c.classify in
     let word = word_at c.args.source.now c.args.body in
     let named = other_word word word_is.result word_is.ensures c.in_default.is in
@@ -49,6 +47,6 @@ returns-then-length-eq1 c e u l has coded has' =
 pub substitute_long-requires : goal.substitute_long-requires
 substitute_long-requires c =
     let (e, subject, short) = c.requires.2 in
-    let long = c.length_at-length.ensures.1 e subject.lies in
+    let long = c.length_at-length.ensures.value_2 e subject.lies in
     let many : 1 < size e = omega (arith, long, c.if-length-eq1.false, size_positive e) in
     (c.requires.0, c.requires.1, (e, subject, long, many, short), c.requires.3)

@@ -16,7 +16,7 @@ find_variables-requires c =
 pub rewrite-requires : goal.rewrite-requires
 rewrite-requires c =
     let (e, subject, count, many, short) = c.requires.2 in
-    let survey : Surveyed e c.args.source.now c.args.body c.find_variables.new.1.1.1.0 =
+    let survey : Surveyed e c.args.source.now c.args.body c.find_variables.new.first =
     record {
       to = c.args.body + c.args.count;
       reach = omega (arith, count);
