@@ -24,7 +24,7 @@ loop-block-preserved c =
     cleared_more from (from + 512) work (omega arith) inside l.invariant.2
     (elim c.if-not-is_clear.branch [
       then-not-is_clear w ↦ w.work-is ∙ ap (put_mid from (from + 512 - from) l.work) w.fill.ensures
-      | else-not-is_clear w ↦ w.work-is ∙ part_clear from (from + 512 - from) l.work (c.is_clear.ensures.0 (not-false _ w.if-not-is_clear.false))
+      | else-not-is_clear w ↦ w.work-is ∙ part_clear from (from + 512 - from) l.work (c.is_clear.ensures.0 w.if-not-is_clear.false)
     ])
     in
     (omega arith, ap length h ∙ cleared_length (from + 512) work inside, h ∙ ap (λ k. cleared k work) next)
