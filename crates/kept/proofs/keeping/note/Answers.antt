@@ -5,6 +5,7 @@ use native.Mathlib.Omega.{arith}
 use lib.ListN.{length, drop, length-drop, length-set}
 use lib.Seq.{sets}
 use borrow.Author.Rules.{rules}
+use Rattle.calculus.specs.Words.{longest}
 use Rattle.term.specs.Kept.{length_at}
 use Rattle.term.specs.Walk.{span}
 use Rattle.term.proofs.Walking.{span_le, span_none, span_add}
@@ -22,38 +23,47 @@ loop-node-init c =
 abbrev behind : List ℕ → ℕ → ℕ → List ℕ
 behind plain at node = drop (node - at) plain
 
-module _ {before plain out : List ℕ} {at node : ℕ}
-    (room : 2 * (at + length plain) ≤ length before)
-    (inside : (at ≤ node) × (node ≤ at + length plain))
-    (noted : out ≡ sets before (2 * node) (noted_words (behind plain at node))) where
-  ends : at + length plain ≡ node + length (behind plain at node)
-  ends = omega (arith, length-drop (node - at) plain)
+ends : (plain : List ℕ) (at node : ℕ)
+    → (at ≤ node) × (node ≤ at + length plain)
+    → at + length plain ≡ node + length (behind plain at node)
+ends plain at node inside = omega (arith, length-drop (node - at) plain)
 
-  -- What is noted at `j` words behind the node.
-  said : (j p : ℕ) {r : ℕ}
-      → j ≤ length (behind plain at node)
-      → p ≡ node + j
-      → (p < at + length plain → r ≡ length_at out p) × (at + length plain ≤ p → r ≡ 0)
-      → r ≡ span (drop j (behind plain at node)) 1
-  said = noted_span before (behind plain at node) node (at + length plain) ends room noted
+-- What is noted at `j` words behind the node.
+said : (before plain : List ℕ) (at node : ℕ) {out : List ℕ}
+    → 2 * (at + length plain) ≤ length before
+    → (at ≤ node) × (node ≤ at + length plain)
+    → out ≡ sets before (2 * node) (noted_words (behind plain at node))
+    → (j p : ℕ) {r : ℕ}
+    → j ≤ length (behind plain at node)
+    → p ≡ node + j
+    → (p < at + length plain → r ≡ length_at out p) × (at + length plain ≤ p → r ≡ 0)
+    → r ≡ span (drop j (behind plain at node)) 1
+said before plain at node room inside noted =
+    noted_span before (behind plain at node) node (at + length plain) (ends plain at node inside) room noted
 
 first_noted : (c : After-noted-length) → c.noted-length.result ≡ span (behind c.args.plain.now c.args.at c.loop-node.node) 1
 first_noted c =
+    let a = c.args in
     let l = c.loop-node in
-    said c.requires.0 (omega arith, omega arith) l.invariant.4 0 (l.node - 1 + 1) (omega arith) (omega arith) c.noted-length.ensures
+    let inside : (a.at ≤ l.node) × (l.node ≤ a.at + length a.plain.now) = (omega arith, omega arith) in
+    said a.out.now a.plain.now a.at l.node (omega arith) inside l.invariant.4 0 (l.node - 1 + 1) (omega arith) (omega arith)
+        c.noted-length.ensures
 
 -- The length as far as the first part.
 first_length : (c : Joined-count-gt0)
     → c.if-count-gt0.length ≡ 1 + span (behind c.args.plain.now c.args.at c.loop-node.node) (min c.shape_of-shape.result.parts 1)
 first_length c =
+    let a = c.args in
     let l = c.loop-node in
+    let inside : (a.at ≤ l.node) × (l.node ≤ a.at + length a.plain.now) = (omega arith, omega arith) in
     let count = c.shape_of-shape.result.parts in
     let ws = behind c.args.plain.now c.args.at l.node in
     elim c.if-count-gt0.branch [
       then-count-gt0 w ↦
           let one : min count 1 ≡ 1 = omega (arith, w.if-count-gt0.true) in
           let r =
-          said c.requires.0 (omega arith, omega arith) l.invariant.4 0 (l.node - 1 + 1) (omega arith) (omega arith) w.noted-length.ensures
+          said a.out.now a.plain.now a.at l.node (omega arith) inside l.invariant.4 0 (l.node - 1 + 1) (omega arith) (omega arith)
+          w.noted-length.ensures
           in
           w.length-is ∙ rw one (ap (λ n. 1 + n) r)
       | else-count-gt0 w ↦
@@ -62,12 +72,28 @@ first_length c =
     ]
 
 -- And as far as the second.
+second_noted : (c : After-noted-length-then-count-gt1)
+    → let ws = behind c.args.plain.now c.args.at c.loop-node.node in
+    c.if-count-gt0.length ≡ 1 + span ws (min c.shape_of-shape.result.parts 1)
+    → c.noted-length-then-count-gt1.result ≡ span (drop (span ws 1) ws) 1
+second_noted c h =
+    let a = c.args in
+    let l = c.loop-node in
+    let inside : (a.at ≤ l.node) × (l.node ≤ a.at + length a.plain.now) = (omega arith, omega arith) in
+    let ws = behind a.plain.now a.at l.node in
+    let one : min c.shape_of-shape.result.parts 1 ≡ 1 = omega (arith, c.if-count-gt1.true) in
+    let first : c.if-count-gt0.length ≡ 1 + span ws 1 = rw one at h in
+    said a.out.now a.plain.now a.at l.node (omega arith) inside l.invariant.4 (span ws 1) (l.node - 1 + c.if-count-gt0.length)
+        (span_le ws 1) (omega arith) c.noted-length-then-count-gt1.ensures
+
 second_length : (c : Joined-count-gt1)
     → let ws = behind c.args.plain.now c.args.at c.loop-node.node in
     c.if-count-gt0.length ≡ 1 + span ws (min c.shape_of-shape.result.parts 1)
     → c.if-count-gt1.length ≡ 1 + span ws (min c.shape_of-shape.result.parts 2)
 second_length c h =
+    let a = c.args in
     let l = c.loop-node in
+    let inside : (a.at ≤ l.node) × (l.node ≤ a.at + length a.plain.now) = (omega arith, omega arith) in
     let n = c.shape_of-shape.result.parts in
     let ws = behind c.args.plain.now c.args.at l.node in
     elim c.if-count-gt1.branch [
@@ -77,8 +103,12 @@ second_length c h =
           let first : c.if-count-gt0.length ≡ 1 + span ws 1 = rw one at h in
           let r =
           said
-          c.requires.0
-          (omega arith, omega arith)
+          a.out.now
+          a.plain.now
+          a.at
+          l.node
+          (omega arith)
+          inside
           l.invariant.4
           (span ws 1)
           (l.node - 1 + c.if-count-gt0.length)
@@ -93,23 +123,78 @@ second_length c h =
     ]
 
 -- No length is more than the words.
+short : (plain : List ℕ) (at node : ℕ)
+    → (at ≤ node) × (node ≤ at + length plain)
+    → length plain ≤ longest
+    → length (behind plain at node) ≤ 1024
+short plain at node inside few = omega (arith, ends plain at node inside)
+
 pub overflow_add-length : goal.overflow_add-length
-overflow_add-length c = ?
+overflow_add-length c =
+    let a = c.args in
+    let l = c.loop-node in
+    let ws = behind a.plain.now a.at l.node in
+    let few = short a.plain.now a.at l.node (omega arith, omega arith) c.requires.1 in
+    let low : c.noted-length.result ≤ 1024 = omega (arith, first_noted (goal.at.overflow_add-length c).After-noted-length, span_le ws 1, few) in
+    search rules
+
+first_short : (c : Joined-count-gt0) → c.if-count-gt0.length ≤ 1025
+first_short c =
+    let a = c.args in
+    let l = c.loop-node in
+    let ws = behind a.plain.now a.at l.node in
+    let few = short a.plain.now a.at l.node (omega arith, omega arith) c.requires.1 in
+    omega (arith, first_length c, span_le ws (min c.shape_of-shape.result.parts 1), few)
 
 pub overflow_add-node-then-count-gt1 : goal.overflow_add-node-then-count-gt1
-overflow_add-node-then-count-gt1 c = ?
+overflow_add-node-then-count-gt1 c =
+    let low = first_short (goal.at.overflow_add-node-then-count-gt1 c).Joined-count-gt0 in
+    search rules
 
 pub overflow_add-length-then-count-gt1 : goal.overflow_add-length-then-count-gt1
-overflow_add-length-then-count-gt1 c = ?
+overflow_add-length-then-count-gt1 c =
+    let a = c.args in
+    let l = c.loop-node in
+    let ws = behind a.plain.now a.at l.node in
+    let few = short a.plain.now a.at l.node (omega arith, omega arith) c.requires.1 in
+    let at = (goal.at.overflow_add-length-then-count-gt1 c).Joined-count-gt0 in
+    let low = first_short at in
+    let second = second_noted (goal.at.overflow_add-length-then-count-gt1 c).After-noted-length-then-count-gt1 (first_length at) in
+    let more : c.noted-length-then-count-gt1.result ≤ 1024 =
+    omega (arith, second, span_le (drop (span ws 1) ws) 1, length-drop (span ws 1) ws, few)
+    in
+    search rules
 
 pub narrow-requires : goal.narrow-requires
-narrow-requires c = ?
+narrow-requires c =
+    let a = c.args in
+    let l = c.loop-node in
+    let ws = behind a.plain.now a.at l.node in
+    let few = short a.plain.now a.at l.node (omega arith, omega arith) c.requires.1 in
+    let long =
+    second_length (goal.at.narrow-requires c).Joined-count-gt1 (first_length (goal.at.narrow-requires c).Joined-count-gt0)
+    in
+    omega (arith, long, span_le ws (min c.shape_of-shape.result.parts 2), few)
 
 pub bounds-out-node-in-loop-node : goal.bounds-out-node-in-loop-node
 bounds-out-node-in-loop-node c = simp length-set (omega arith)
 
 pub loop-node-preserved : goal.loop-node-preserved
-loop-node-preserved c = ?
+loop-node-preserved c =
+    let a = c.args in
+    let l = c.loop-node in
+    let shape = c.shape_of-shape in
+    let ws = behind a.plain.now a.at l.node in
+    let long =
+    second_length (goal.at.loop-node-preserved c).Joined-count-gt1 (first_length (goal.at.loop-node-preserved c).Joined-count-gt0)
+    in
+    let extent = c.narrow.ensures ∙ long ∙ sym (span_node shape.result _ ws shape.ensures) in (
+      omega arith,
+      omega arith,
+      refl,
+      simp length-set l.invariant.3,
+      noted_before a.out.now a.plain.now a.at l.node c.narrow.result (omega arith, omega arith) l.invariant.4 extent,
+    )
 
 pub returns : goal.returns
 returns c t e =
