@@ -41,7 +41,7 @@ returns-then-length-eq1 c e u l has coded has' =
     let single : size e ≡ 1 = sym (c.length_at-length.ensures.value_2 e l) ∙ c.if-length-eq1.true in
     let word_is = c.classify in
     let word = word_at c.args.source.now c.args.body in
-    let named = other_word word word_is.result word_is.ensures c.in_default.is in
+    let named = other_word word word_is.result word_is.ensures c.in_default.not-Variable in
     puts_as c.put.ensures (sym (kept_leaf (view e) 0 u l has single (λ free. named (omega (arith, free)))))
 
 pub substitute_long-requires : goal.substitute_long-requires
