@@ -2,8 +2,6 @@ use Prim.Native.Nat.{◌+◌, ◌*◌, ◌-◌, ◌≤◌}
 use mathlib.Core.Path.{◌≡◌, refl, ◌∙◌, ap}
 use native.Mathlib.Omega.{arith}
 use lib.ListN.{length}
-use borrow.Author.Rules.{rules}
-use borrow.Author.Tests.{not-false}
 use borrow.Rule.Slice.PartMut.{put_mid}
 use Rattle.calculus.specs.Outcomes.{cleared}
 use Rattle.kept.proofs.Zeros.{cleared_none, cleared_length, cleared_more, part_clear}
@@ -23,7 +21,7 @@ loop-block-preserved c =
     let h : c.if-not-is_clear.work ≡ cleared (from + 512) work =
     cleared_more from (from + 512) work (omega arith) inside l.invariant.2
     (elim c.if-not-is_clear.branch [
-      then-not-is_clear w ↦ w.work-is ∙ ap (put_mid from (from + 512 - from) l.work) w.fill.ensures
+      | then-not-is_clear w ↦ w.work-is ∙ ap (put_mid from (from + 512 - from) l.work) w.fill.ensures
       | else-not-is_clear w ↦ w.work-is ∙ part_clear from (from + 512 - from) l.work (c.is_clear.ensures.0 w.if-not-is_clear.false)
     ])
     in

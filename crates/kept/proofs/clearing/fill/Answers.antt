@@ -1,9 +1,8 @@
-use Prim.Native.Nat.{◌≤◌, ◌<◌, ◌-◌}
+use Prim.Native.Nat.{◌<◌}
 use mathlib.Core.List.{◌++◌}
 use mathlib.Core.Path.{◌≡◌, refl, ◌∙◌, ap}
 use native.Mathlib.Omega.{arith}
 use lib.ListN.{length, drop, set, replicate, length-set}
-use borrow.Author.Rules.{rules}
 use borrow.Author.Fill.{fill_none, fill_more}
 use Rattle.kept.proofs.Zeros.{filled}
 use Rattle.kept.proofs.clearing.fill.Goals as goal

@@ -1,13 +1,9 @@
 -- `fill` meets its contract. The loop's invariant: the words passed are 0, and the rest are as they were. The measure is what
 -- is left of the words.
-use Prim.Native.Nat.{◌≤◌, ◌<◌, ◌-◌}
+use Prim.Native.Nat.{◌≤◌, ◌-◌}
 use mathlib.Core.List.{◌++◌}
-use mathlib.Core.Path.{◌≡◌, refl, ◌∙◌, ap}
-use native.Mathlib.Omega.{arith}
-use lib.ListN.{length, drop, set, replicate, length-set}
-use borrow.Author.Rules.{rules}
-use borrow.Author.Fill.{fill_none, fill_more}
-use Rattle.kept.proofs.Zeros.{filled}
+use mathlib.Core.Path.{◌≡◌}
+use lib.ListN.{length, drop, replicate}
 use Rattle.kept.proofs.clearing.fill.Given as goal
 
 abbrev pub invariant-loop-i : goal.invariant-loop-i

@@ -1,10 +1,8 @@
-use Prim.Native.Nat.{◌≤◌, ◌-◌}
 use mathlib.Core.Bool.{true}
 use mathlib.Core.Logic.{◌↔◌}
 use mathlib.Core.Path.{◌≡◌}
 use native.Mathlib.Omega.{arith}
 use lib.ListN.{length}
-use borrow.Author.Rules.{rules}
 use Rattle.kept.proofs.Zeros.{Zeros, zeros_none, zeros_more, zeros_not, zeros_all}
 use Rattle.kept.proofs.clearing.is_clear.Goals as goal
 use Rattle.kept.proofs.clearing.is_clear.Goals.{then-words-i-ne0, else-words-i-ne0}
@@ -18,7 +16,7 @@ loop-i-preserved c =
     let i = c.loop-i.i in (
       omega arith,
       elim c.if-words-i-ne0.branch [
-        then-words-i-ne0 w ↦ zeros_not ws i w.if-words-i-ne0.true w.clear-is
+        | then-words-i-ne0 w ↦ zeros_not ws i w.if-words-i-ne0.true w.clear-is
         | else-words-i-ne0 w ↦ zeros_more ws i c.loop-i.invariant.1 w.if-words-i-ne0.false w.clear-is
       ],
     )

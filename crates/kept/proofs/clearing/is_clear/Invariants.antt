@@ -2,12 +2,10 @@
 -- left of the words.
 use Prim.Native.Nat.{◌≤◌, ◌-◌}
 use mathlib.Core.Bool.{true}
-use mathlib.Core.Logic.{◌↔◌, ⊎_elim}
+use mathlib.Core.Logic.{◌↔◌}
 use mathlib.Core.Path.{◌≡◌}
-use native.Mathlib.Omega.{arith}
 use lib.ListN.{length}
-use borrow.Author.Rules.{rules}
-use Rattle.kept.proofs.Zeros.{Zeros, zeros_none, zeros_more, zeros_not, zeros_all}
+use Rattle.kept.proofs.Zeros.{Zeros}
 use Rattle.kept.proofs.clearing.is_clear.Given as goal
 
 abbrev pub invariant-loop-i : goal.invariant-loop-i

@@ -1,13 +1,9 @@
 -- `copy` meets its contract. The loop's invariant: the output is as it was with the first `i` words of the source stored from
 -- `at` on, and there is room for all of them.
 use Prim.Native.Nat.{◌+◌, ◌-◌, ◌≤◌}
-use mathlib.Core.Path.{◌≡◌, refl, ap, ◌∙◌}
-use borrow.Author.Rules.{rules}
-use native.Mathlib.Omega.{arith}
-use lib.ListN.{length, take, length-set}
-use lib.Seq.{sets, take_all}
-use Rattle.kept.proofs.Stores.{sets_next}
-use Rattle.kept.specs.declared.copying.Room.TheVariants as room
+use mathlib.Core.Path.{◌≡◌}
+use lib.ListN.{length, take}
+use lib.Seq.{sets}
 use Rattle.kept.proofs.copying.copy.Given as goal
 
 abbrev pub invariant-loop-i : goal.invariant-loop-i

@@ -1,6 +1,5 @@
 -- `length_at` meets its contract. The length read there is the size of the term that lies there.
 use mathlib.Core.Path.{◌∙◌}
-use borrow.Author.Rules.{rules}
 use Rattle.term.proofs.Keeping.{lies_length}
 use Rattle.kept.proofs.keeping.length_at.Goals as goal
 

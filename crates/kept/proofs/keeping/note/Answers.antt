@@ -47,7 +47,7 @@ first_noted c =
     let l = c.loop-node in
     let inside : (a.at ≤ l.node) × (l.node ≤ a.at + length a.plain.now) = (omega arith, omega arith) in
     said a.out.now a.plain.now a.at l.node (omega arith) inside l.invariant.4 0 (l.node - 1 + 1) (omega arith) (omega arith)
-        c.noted-length.ensures
+    c.noted-length.ensures
 
 -- The length as far as the first part.
 first_length : (c : Joined-count-gt0)
@@ -59,7 +59,7 @@ first_length c =
     let count = c.shape_of-shape.result.parts in
     let ws = behind c.args.plain.now c.args.at l.node in
     elim c.if-count-gt0.branch [
-      then-count-gt0 w ↦
+      | then-count-gt0 w ↦
           let one : min count 1 ≡ 1 = omega (arith, w.if-count-gt0.true) in
           let r =
           said a.out.now a.plain.now a.at l.node (omega arith) inside l.invariant.4 0 (l.node - 1 + 1) (omega arith) (omega arith)
@@ -84,7 +84,7 @@ second_noted c h =
     let one : min c.shape_of-shape.result.parts 1 ≡ 1 = omega (arith, c.if-count-gt1.true) in
     let first : c.if-count-gt0.length ≡ 1 + span ws 1 = rw one at h in
     said a.out.now a.plain.now a.at l.node (omega arith) inside l.invariant.4 (span ws 1) (l.node - 1 + c.if-count-gt0.length)
-        (span_le ws 1) (omega arith) c.noted-length-then-count-gt1.ensures
+    (span_le ws 1) (omega arith) c.noted-length-then-count-gt1.ensures
 
 second_length : (c : Joined-count-gt1)
     → let ws = behind c.args.plain.now c.args.at c.loop-node.node in
@@ -97,7 +97,7 @@ second_length c h =
     let n = c.shape_of-shape.result.parts in
     let ws = behind c.args.plain.now c.args.at l.node in
     elim c.if-count-gt1.branch [
-      then-count-gt1 w ↦
+      | then-count-gt1 w ↦
           let one : min n 1 ≡ 1 = omega (arith, w.if-count-gt1.true) in
           let two : min n 2 ≡ 1 + 1 = omega (arith, w.if-count-gt1.true) in
           let first : c.if-count-gt0.length ≡ 1 + span ws 1 = rw one at h in

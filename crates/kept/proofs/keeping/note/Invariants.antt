@@ -1,17 +1,10 @@
 -- `note` meets its contract. The loop's invariant: the output is as it was, with the words from `node` on noted in their places.
 -- The length of a node is then the walk from it, since the lengths of its parts are walks and two walks in a row are one.
-use Prim.Native.Nat.{ℕ, ◌+◌, ◌*◌, ◌-◌, ◌≤◌, ◌<◌, min}
-use mathlib.Core.List.{List}
-use mathlib.Core.Logic.{⊎_elim}
-use mathlib.Core.Path.{◌≡◌, refl, sym, ap, ◌∙◌}
-use native.Mathlib.Omega.{arith}
-use lib.ListN.{length, drop, length-drop, length-set}
+use Prim.Native.Nat.{◌+◌, ◌*◌, ◌-◌, ◌≤◌}
+use mathlib.Core.Path.{◌≡◌}
+use lib.ListN.{length, drop}
 use lib.Seq.{sets}
-use borrow.Author.Rules.{rules}
-use Rattle.term.specs.Kept.{length_at}
-use Rattle.term.specs.Walk.{span}
-use Rattle.term.proofs.Walking.{span_le, span_none, span_add}
-use Rattle.kept.proofs.Noting.{noted_words, noted_none, noted_all, noted_before, noted_span, span_node}
+use Rattle.kept.proofs.Noting.{noted_words}
 use Rattle.kept.proofs.keeping.note.Given as goal
 
 abbrev pub invariant-loop-node : goal.invariant-loop-node

@@ -1,4 +1,4 @@
-use Prim.Native.Nat.{ℕ, ◌+◌, ◌-◌, ◌*◌, ◌≤◌, ◌<◌}
+use Prim.Native.Nat.{ℕ, ◌+◌, ◌*◌, ◌≤◌, ◌<◌}
 use mathlib.Core.List.{List, [], ◌∷◌}
 use mathlib.Core.Path.{◌≡◌, sym, ap, ◌∙◌, subst}
 use native.Mathlib.Omega.{arith}
@@ -12,7 +12,7 @@ use Rattle.term.specs.Kept.{Lies, kept}
 use Rattle.term.proofs.Keeping.{lies_within, lies_one}
 use Rattle.term.proofs.Words.{shape_two}
 use Rattle.kept.specs.Rewriting.{Subject, Surveyed}
-use Rattle.kept.proofs.InPlace.{Parted, Second, parted, clear_raised, subject_worded}
+use Rattle.kept.proofs.InPlace.{Parted, parted, clear_raised, subject_worded}
 use Rattle.kept.proofs.rewriting.+raise_parts.Goals as goal
 use Rattle.kept.proofs.rewriting.+raise_parts.Goals.{Joined-length-eq1, then-length-eq1, else-length-eq1+then-wide-back, else-length-eq1+else-wide-back}
 
@@ -52,7 +52,7 @@ first t c =
     let p = node c.requires in
     let l = c.length_at-length.ensures.value_2 p.part p.subject.lies in
     elim c.if-length-eq1.branch [
-      then-length-eq1 w ↦ w.slice-is ∙ w.raise_leaf.ensures p.part p.subject.lies (subject_worded p.subject) (sym l ∙ w.if-length-eq1.true)
+      | then-length-eq1 w ↦ w.slice-is ∙ w.raise_leaf.ensures p.part p.subject.lies (subject_worded p.subject) (sym l ∙ w.if-length-eq1.true)
       | else-length-eq1+then-wide-back w ↦ w.slice-is ∙ w.raise_parts.ensures p.part p.subject.lies (subject_worded p.subject)
       | else-length-eq1+else-wide-back w ↦
           w.slice-is ∙ clear_raised a.by a.depth p.subject.lies p.surveyed (omega (arith, w.if-wide-back.false, w.wide.ensures, l))
@@ -88,10 +88,10 @@ behind t c two =
     let m = a.node + 1 + c.length_at-length.result in
     let k = a.depth + shape.result.bound in
     let second = p.second
-        shape.result.bound
-        m
-        (ap (λ x. a.node + 1 + x) l)
-        (sym shape.ensures ∙ shape_two shape.result two) in
+    shape.result.bound
+    m
+    (ap (λ x. a.node + 1 + x) l)
+    (sym shape.ensures ∙ shape_two shape.result two) in
     let back = sym (first t c) in
     record {
       part = second.part;

@@ -1,8 +1,7 @@
-use Prim.Native.Nat.{ℕ, ◌+◌, ◌-◌, ◌*◌, ◌≤◌, ◌<◌}
+use Prim.Native.Nat.{ℕ, ◌+◌, ◌*◌, ◌≤◌, ◌<◌}
 use mathlib.Core.List.{List, [], ◌∷◌, ◌++◌}
 use mathlib.Core.Path.{◌≡◌, refl, sym, ap, ◌∙◌, subst}
 use native.Mathlib.Omega.{arith}
-use borrow.Author.Rules.{rules}
 use lib.ListN.{length, length-take}
 use Rattle.calculus.specs.Term.{Term, substitute, size}
 use Rattle.calculus.specs.Words.{Worded, longest}
@@ -124,7 +123,7 @@ first_put t c u coded has' =
     c.put-start.ensures
     c.if-out-start.false
     (elim c.if-middle-start.branch [
-      then-middle-start w ↦
+      | then-middle-start w ↦
           let called = w.rewrite-middle.ensures p.part u p.subject.lies (subject_worded p.subject) coded has' in
           puts_where called (c.put_same-middle.ensures.0 w.if-middle-start.true) w.middle-is w.out-is
       | else-middle-start w ↦
@@ -215,7 +214,7 @@ second_put t c u first coded has' =
     first
     c.if-out-middle.false
     (elim c.if-end-middle.branch [
-      then-end-middle w ↦
+      | then-end-middle w ↦
           let called = w.rewrite-end.ensures q.part u q.subject.lies (subject_worded q.subject) coded has' in
           puts_where called (c.put_same-end.ensures.0 w.if-end-middle.true) w.end-is w.out-is
       | else-end-middle w ↦
@@ -266,13 +265,13 @@ composed t c u first coded has' =
     let shape = c.shape_of-shape in
     let p = front c.requires.2 shape.result shape.ensures c.if-count-eq0.false in
     elim c.if-count-gt1.branch [
-      then-count-gt1+else-out-end w ↦
+      | then-count-gt1+else-out-end w ↦
           let long = w.length_at.ensures.value_2 p.part p.subject.lies in
           let q = back c.requires.2 shape.result shape.ensures c.if-count-eq0.false w.if-count-gt1.true w.length_at.result long in
           let for_second = kept (substitute (a.depth + shape.result.bound) u q.part) in
           let second : Puts for_second c.if-middle-start.out c.if-middle-start.middle w.if-end-middle.end w.if-end-middle.out =
           elim w.if-end-middle.branch [
-            then-end-middle w' ↦
+            | then-end-middle w' ↦
                 let called = w'.rewrite-end.ensures q.part u q.subject.lies (subject_worded q.subject) coded has' in
                 puts_where called (w.put_same-end.ensures.0 w'.if-end-middle.true) w'.end-is w'.out-is
             | else-end-middle w' ↦

@@ -1,5 +1,4 @@
 -- `copy_nodes` meets its contract: the copy answers in words, of which two are a node.
-use borrow.Author.Rules.{rules}
 use Rattle.kept.proofs.Composed.{puts_copied, puts_over}
 use Rattle.kept.proofs.rewriting.copy_nodes.Goals as goal
 

@@ -1,8 +1,7 @@
-use Prim.Native.Nat.{◌+◌, ◌-◌, ◌≤◌}
+use Prim.Native.Nat.{◌+◌, ◌-◌}
 use mathlib.Core.Path.{◌≡◌, ◌∙◌, subst}
 use native.Mathlib.Nat.{le_refl}
 use native.Mathlib.Omega.{arith}
-use borrow.Author.Rules.{rules}
 use Rattle.kept.specs.Rewriting.{FirstVariables}
 use Rattle.kept.proofs.RaiseSurvey.{found, found_none, found_here, found_behind, surveyed_none, surveyed_more}
 use Rattle.kept.proofs.rewriting.find_variables.Goals as goal
@@ -26,7 +25,7 @@ loop-node-preserved c =
     let next_is : m + 1 ≡ l.node = omega (arith, c.loop-node-test.true) in
     let now : c.if-source-node-ge16.next ≡ found source c.args.to m =
     elim c.if-source-node-ge16.branch [
-      then-source-node-ge16 w ↦ w.next-is ∙ w.narrow-next-then-source-node-ge16.ensures ∙ found_here source m next_is l.invariant.1 c.requires.2 w.if-source-node-ge16.true
+      | then-source-node-ge16 w ↦ w.next-is ∙ w.narrow-next-then-source-node-ge16.ensures ∙ found_here source m next_is l.invariant.1 c.requires.2 w.if-source-node-ge16.true
       | else-source-node-ge16 w ↦ w.next-is ∙ l.invariant.2 ∙ found_behind source m next_is l.invariant.1 c.requires.2 w.if-source-node-ge16.false
     ]
     in (

@@ -1,13 +1,9 @@
 -- `find_variables` meets its contract. The loop's invariant: the nodes from `node` on are surveyed, and `next` is what is found
 -- from there on.
-use Prim.Native.Nat.{◌+◌, ◌-◌, ◌≤◌}
-use mathlib.Core.Logic.{⊎_elim}
-use mathlib.Core.Path.{◌≡◌, ◌∙◌, subst}
-use native.Mathlib.Nat.{le_refl}
-use native.Mathlib.Omega.{arith}
-use borrow.Author.Rules.{rules}
+use Prim.Native.Nat.{◌≤◌}
+use mathlib.Core.Path.{◌≡◌}
 use Rattle.kept.specs.Rewriting.{FirstVariables}
-use Rattle.kept.proofs.RaiseSurvey.{found, found_none, found_here, found_behind, surveyed_none, surveyed_more}
+use Rattle.kept.proofs.RaiseSurvey.{found}
 use Rattle.kept.proofs.rewriting.find_variables.Given as goal
 
 abbrev pub invariant-loop-node : goal.invariant-loop-node

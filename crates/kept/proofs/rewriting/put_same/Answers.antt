@@ -2,7 +2,6 @@
 -- makes of them, and words that are put move the place.
 use Prim.Native.Nat.{◌+◌, ◌*◌, ◌≤◌}
 use mathlib.Core.Path.{◌≡◌, refl, sym, ap, subst, ◌∙◌}
-use borrow.Author.Rules.{rules}
 use native.Mathlib.Omega.{arith}
 use lib.ListN.{length}
 use Rattle.calculus.specs.Term.{size}
@@ -16,7 +15,6 @@ use Rattle.kept.proofs.Composed.{puts_as, puts_moves}
 use Rattle.kept.proofs.InPlace.{subject_worded}
 use Rattle.kept.proofs.Putting.{kept_leaf, part_taken}
 use Rattle.kept.proofs.rewriting.put_same.Goals as goal
-use Rattle.kept.proofs.rewriting.put_same.Goals.{After-shared_slice_known-1, Else-length-eq1, Start, Then-end-wide, Then-length-eq1, Then-word-depth}
 
 pub length_at-length-requires : goal.length_at-length-requires
 length_at-length-requires c =

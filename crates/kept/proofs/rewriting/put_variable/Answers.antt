@@ -2,7 +2,6 @@
 -- stands, which keeps its length; where it is closed or under no binder, that leaves it as it is.
 use Prim.Native.Nat.{◌*◌, ◌≤◌}
 use mathlib.Core.Path.{◌≡◌, sym, ap, subst, ◌∙◌}
-use borrow.Author.Rules.{rules}
 use native.Mathlib.Omega.{arith}
 use lib.ListN.{length}
 use Rattle.calculus.specs.Term.{size}
@@ -14,7 +13,6 @@ use Rattle.kept.proofs.InPlace.{fits_worded}
 use Rattle.kept.proofs.Putting.{kept_above, kept_below, kept_raised_length}
 use Rattle.kept.proofs.Putting.{substitute_closed, substitute_here, substitute_outermost}
 use Rattle.kept.proofs.rewriting.put_variable.Goals as goal
-use Rattle.kept.proofs.rewriting.put_variable.Goals.{After-copy_nodes-end, Else-depth-index, Start, Then-depth-index, Then-end-out, Then-index-depth}
 
 pub returns-then-index-depth : goal.returns-then-index-depth
 returns-then-index-depth c u coded has =

@@ -1,13 +1,12 @@
 -- `raise` meets its contract: a leaf is raised without a survey.
 use mathlib.Core.Path.{sym, ap, ◌∙◌}
 use native.Mathlib.Omega.{arith}
-use borrow.Author.Rules.{rules}
 use lib.ListN.{length}
 use Rattle.calculus.proofs.Coding.{size_positive}
 use Rattle.term.proofs.Keeping.{kept_length, lies_whole}
 use Rattle.kept.proofs.InPlace.{subject_whole, raised_whole}
 use Rattle.kept.proofs.rewriting.raise.Goals as goal
-use Rattle.kept.proofs.rewriting.raise.Goals.{After-length_at-count, After-raise_leaf}
+use Rattle.kept.proofs.rewriting.raise.Goals.{After-length_at-count}
 
 pub length_at-count-requires : goal.length_at-count-requires
 length_at-count-requires c =

@@ -1,7 +1,6 @@
 -- `raise_long` meets its contract: a term without variables is the same raised, any other is raised at its node.
 use mathlib.Core.Path.{refl, sym, ap, ◌∙◌}
 use native.Mathlib.Omega.{arith}
-use borrow.Author.Rules.{rules}
 use lib.ListN.{length}
 use Rattle.calculus.specs.Term.{raise}
 use Rattle.term.specs.Kept.{kept}

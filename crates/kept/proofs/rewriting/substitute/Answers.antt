@@ -2,18 +2,15 @@
 -- which stay.
 use Prim.Native.Nat.{◌<◌}
 use mathlib.Core.Path.{◌≡◌, sym, ap, ◌∙◌}
-use borrow.Author.Rules.{rules}
 use native.Mathlib.Omega.{arith}
 use Rattle.calculus.specs.Term.{size, substitute}
 use Rattle.calculus.proofs.Coding.{size_positive}
 use Rattle.term.specs.Kept.{kept, word_at}
-use Rattle.term.specs.Word.{meaning_of}
 use Rattle.term.proofs.Nodes.{view}
 use Rattle.term.proofs.Keeping.{lies_within}
 use Rattle.kept.proofs.Composed.{puts_as}
 use Rattle.kept.proofs.Putting.{index_small, is_variable, kept_leaf, other_word}
 use Rattle.kept.proofs.rewriting.substitute.Goals as goal
-use Rattle.kept.proofs.rewriting.substitute.Goals.{After-length_at-length, After-put, After-put_variable, In-Variable-2, In_default, Start, Then-length-eq1}
 
 pub length_at-length-requires : goal.length_at-length-requires
 length_at-length-requires c =

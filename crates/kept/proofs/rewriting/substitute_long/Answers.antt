@@ -1,12 +1,10 @@
 -- `substitute_long` meets its contract: the survey is of the nodes of the term, and so one for its rewriting.
 use Prim.Native.Nat.{◌+◌}
 use mathlib.Core.Path.{refl}
-use borrow.Author.Rules.{rules}
 use native.Mathlib.Omega.{arith}
 use Rattle.term.proofs.Keeping.{lies_within}
 use Rattle.kept.specs.Rewriting.{Surveyed}
 use Rattle.kept.proofs.rewriting.substitute_long.Goals as goal
-use Rattle.kept.proofs.rewriting.substitute_long.Goals.{After-find_variables, Start}
 
 pub find_variables-requires : goal.find_variables-requires
 find_variables-requires c =
