@@ -7,24 +7,21 @@ use mathlib.Core.Path.{◌≡◌, refl, sym, ap, ap₂, ◌∙◌}
 use native.Mathlib.Decide.{dec_le}
 use native.Mathlib.Omega.{arith}
 use borrow.Author.Tests.{lt-ltb, le-ltb, eq-eqb, ne_eqb}
-use lib.Dec.{ltb→lt}
 use lib.ListN.{length, take, drop, get_or, length-append, length-take}
-use types.Run.{OneOf}
 use Rattle.calculus.specs.Term.{Term, var, star, castdown, name, size, raise, substitute}
 use Rattle.calculus.specs.Words.{Scoped, Worded}
 use Rattle.calculus.specs.Meaning.{a_variable, a_name, binds, meaning}
-use Rattle.calculus.specs.Scan.{bound, means}
 use Rattle.calculus.proofs.Bridge.{raise_none}
 use Rattle.calculus.proofs.Coding.{size_positive}
 use Rattle.calculus.proofs.Meanings.{no_binds}
 use Rattle.term.specs.declared.word.Meaning.{Meaning}
+use Rattle.term.specs.declared.word.Meaning.TheVariants.{Star, CastDown, Application, CastUp, Abstraction, Product, Recursion, Variable, Nothing, Name}
 use Rattle.term.specs.Kept.{keep, kept, Lies, word_at}
 use Rattle.term.specs.declared.word.Shape.{Shape}
 use Rattle.term.specs.Word.{meaning_of, shape_of}
 use Rattle.term.proofs.Nodes.{Two, View, a_variable as a-var, a_star, a_name, one_part, two_parts, raise_two, size_two}
 use Rattle.term.proofs.Nodes.{substitute_two, scoped_two, binds_two, word_two}
 use Rattle.term.proofs.Keeping.{kept_length, lies_taken, lies_word, lies_castdown, lies_star, lies_variable, lies_name}
-use Rattle.term.proofs.Visits.{tag, no_variable}
 use Rattle.term.proofs.Words.{named, beyond, variable, variable_index}
 use Rattle.kept.specs.Rewriting.{Subject, Surveyed}
 use Rattle.kept.proofs.Clear.{Built, of_variable, of_star, of_name, of_one, of_two, built}
@@ -113,16 +110,27 @@ index_small w i m = omega (arith, never, variable_index w i m)
     never h = on h (dec_le 2080 w)
 
 -- A word that means no variable is below 16 or from 2,048 on, since those between are variables.
+no_variable : (m : Meaning) (j : ℕ) → ((i : ℕ) → m ≡ Variable i → ⊥) → meaning_of m ≡ a_variable j → ⊥
+no_variable Star j f e = absurd (true≢false cc)
+no_variable CastDown j f e = absurd (true≢false cc)
+no_variable Application j f e = absurd (true≢false cc)
+no_variable CastUp j f e = absurd (true≢false cc)
+no_variable Abstraction j f e = absurd (true≢false cc)
+no_variable Product j f e = absurd (true≢false cc)
+no_variable Recursion j f e = absurd (true≢false cc)
+no_variable (Variable i) j f e = f i refl
+no_variable Nothing j f e = absurd (true≢false cc)
+no_variable (Name i) j f e = absurd (true≢false cc)
+
 pub other_word : (w : ℕ) (m : Meaning)
     → meaning_of m ≡ meaning w
-    → OneOf (0 ∷ 1 ∷ 2 ∷ 3 ∷ 4 ∷ 5 ∷ 6 ∷ 8 ∷ 9 ∷ []) (tag m)
+    → ((i : ℕ) → m ≡ Variable i → ⊥)
     → 16 ≤ w
     → 2048 ≤ w
-unfolding bound
-other_word w m is one low = omega (arith, never)
+other_word w m is not low = omega (arith, never)
   where
     never : w < 2048 → ⊥
-    never h = omega (arith, ltb→lt (w - 16) 0 (rw (is ∙ variable w low h) at (no_variable m one 0)))
+    never h = no_variable m (w - 16) not (is ∙ variable w low h)
 
 -- The term at a node by what its word means.
 module _ {slice : List ℕ} {n : ℕ} where

@@ -1,6 +1,6 @@
 -- What is written into a slice with bounded room, and what the answer then is. Where the words do not fit, what the slice then holds
 -- is left free.
-use Rattle.std.specs.Prelude.{ℕ, ◌+◌, ◌*◌, ◌≤◌, ◌<◌, List, ◌≡◌, length, take}
+use Rattle.std.specs.Prelude.{ℕ, ◌+◌, ◌*◌, ◌≤◌, ◌<◌, List, ◌≡◌, length}
 use Rattle.std.proofs.lemmas.List.Edits.{sets}
 use Rattle.kept.specs.declared.copying.Room.{Room}
 use Rattle.kept.specs.declared.copying.Room.TheVariants as room
