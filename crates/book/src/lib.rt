@@ -9,7 +9,7 @@ ghost use Rattle.book.specs.Layout.{Defines, shows};
 use term::word::wide;
 
 // Who reads a book: a run, to whom all bodies are open, or the check of an owner.
-#[derive(Drop)]
+#[derive(Clone, Copy)]
 pub enum Reader {
     Everybody,
     Owner(u16),

@@ -1,5 +1,5 @@
--- The redex as the code finds it. Of the two words that decide, the code knows the numbers of their variants; these are the kinds
--- of the words, by which the redex is decided. Where the first is a name, the book tells whether its reader sees what stands for it.
+-- The redex as the code finds it. Of the two words that decide, the code knows their variants; these tell the kinds of the words, by
+-- which the redex is decided. Where the first is a name, the book tells whether its reader sees what stands for it.
 use Prim.Native.Nat.{ℕ, zero, suc, pred, ◌+◌, ◌*◌, ◌-◌, ◌<◌}
 use mathlib.Core.Bool.{Bool, true, false, cond}
 use mathlib.Core.List.{List, []}
@@ -8,7 +8,6 @@ use mathlib.Core.Path.{◌≡◌, refl, sym, ap, ap₂, ◌∙◌, subst}
 use native.Mathlib.Numerals.{sub-one}
 use native.Mathlib.Omega.{arith}
 use lib.ListN.{length, get_or}
-use types.Run.{OneOf}
 use Rattle.calculus.specs.Term.{Term}
 use Rattle.calculus.specs.Book.{Definition, Book, View, entry}
 use Rattle.term.specs.Kept.{kept, word_at}
@@ -18,14 +17,13 @@ use Rattle.term.proofs.Keeping.{spelled}
 use Rattle.term.specs.declared.word.Meaning.{Meaning}
 use Rattle.term.specs.declared.word.Meaning.TheVariants as word
 use Rattle.term.specs.Word.{meaning_of}
-use Rattle.term.proofs.Visits.{tag, Each}
 use Rattle.book.specs.Layout.{Defines, Holds, shows, sight}
 use Rattle.book.specs.declared.Reader.{Reader}
 use Rattle.book.proofs.Entries.{entry_of, sight_shown, sight_hidden}
 use Rattle.reduction.specs.declared.stepping.Redex.{Redex}
 use Rattle.reduction.specs.declared.stepping.Redex.TheVariants.{Stuck, Name}
 use Rattle.reduction.specs.Stepping.{Keeps, locate, heads}
-use Rattle.reduction.proofs.WordKinds.{index, kind, kind_among}
+use Rattle.reduction.proofs.WordKinds.{index, kind, variant_kind, kind_by}
 use Rattle.reduction.proofs.Heads.{stands, visible, outermost, framed, decide, decided, leader}
 use Rattle.reduction.proofs.Heads.{name_decide, located, leader_named, heads_inside, word_spelled}
 
@@ -112,46 +110,43 @@ module _ {who : Reader} {ws : List ℕ} {at : ℕ} {m : Meaning} (d : Decides wh
       ∙ ap (λ n. decide (sight who B) at n (kind (word_at ws (at - 1)))) (ap meaning_of (sym told) ∙ d.known)
       ∙ decides_it B t held k (sight who B)
 
-  module _ {r : Redex} (ks : List ℕ) (one : OneOf ks (tag m)) where
-    pub found : {book : List ℕ}
-        → (at ≡ 0 → (s : Bool) → Each (λ k. get_or (outermost s) k Stuck ≡ r) ks)
-        → ((at ≡ 0 → ⊥) → (s : Bool) → Each (λ k. get_or (framed s at (at - 1) (kind (word_at ws (at - 1)))) k Stuck ≡ r) ks)
-        → (B : Book) (t : Term)
-        → Holds B book
-        → Keeps B t ws
-        → r ≡ locate (sight who B) t
-    unfolding kind
-    found root inner B t held k = sym (by_place v at w p at_root at_inner) ∙ decides_it B t held k v
-      where
-        v : View
-        v = sight who B
+  -- By the variant that the word's meaning is, for either place.
+  pub found : {book : List ℕ} {r : Redex}
+      → (at ≡ 0 → (s : Bool) → get_or (outermost s) (variant_kind m) Stuck ≡ r)
+      → ((at ≡ 0 → ⊥) → (s : Bool) → get_or (framed s at (at - 1) (kind (word_at ws (at - 1)))) (variant_kind m) Stuck ≡ r)
+      → (B : Book) (t : Term)
+      → Holds B book
+      → Keeps B t ws
+      → r ≡ locate (sight who B) t
+  unfolding kind
+  found {r = r} root inner B t held k = sym (by_place v at w p at_root at_inner) ∙ decides_it B t held k v
+    where
+      v : View
+      v = sight who B
 
-        w : calculus.Meaning
-        w = meaning (word_at ws at)
+      w : calculus.Meaning
+      w = meaning (word_at ws at)
 
-        p : ℕ
-        p = kind (word_at ws (at - 1))
+      p : ℕ
+      p = kind (word_at ws (at - 1))
 
-        at_root : at ≡ 0 → get_or (outermost (visible v w)) (index w) Stuck ≡ r
-        at_root z =
-            kind_among (λ k. get_or (outermost (visible v w)) k Stuck ≡ r) m (word_at ws at) ks d.known one (root z (visible v w))
+      at_root : at ≡ 0 → get_or (outermost (visible v w)) (index w) Stuck ≡ r
+      at_root z =
+          kind_by (λ k. get_or (outermost (visible v w)) k Stuck ≡ r) m (word_at ws at) d.known (root z (visible v w))
 
-        at_inner : (at ≡ 0 → ⊥) → get_or (framed (visible v w) at (at - 1) p) (index w) Stuck ≡ r
-        at_inner n =
-            let P : ℕ → Type 0 = λ k. get_or (framed (visible v w) at (at - 1) p) k Stuck ≡ r in
-            kind_among P m (word_at ws at) ks d.known one (inner n (visible v w))
+      at_inner : (at ≡ 0 → ⊥) → get_or (framed (visible v w) at (at - 1) p) (index w) Stuck ≡ r
+      at_inner n =
+          kind_by (λ k. get_or (framed (visible v w) at (at - 1) p) k Stuck ≡ r) m (word_at ws at) d.known (inner n (visible v w))
 
-    -- The same behind frames, where the word before is known too.
-    pub found_framed : {book : List ℕ} (before : Meaning) (js : List ℕ)
-        → meaning_of before ≡ meaning (word_at ws (at - 1))
-        → OneOf js (tag before)
-        → (at ≡ 0 → ⊥)
-        → ((s : Bool) → Each (λ p. Each (λ k. get_or (framed s at (at - 1) p) k Stuck ≡ r) ks) js)
-        → (B : Book) (t : Term)
-        → Holds B book
-        → Keeps B t ws
-        → r ≡ locate (sight who B) t
-    found_framed before js known-before one-before framing each =
-        let P : Bool → ℕ → Type 0 = λ s p. Each (λ k. get_or (framed s at (at - 1) p) k Stuck ≡ r) ks in
-        found (λ root. absurd (framing root))
-        (λ _ s. kind_among (P s) before (word_at ws (at - 1)) js known-before one-before (each s))
+  -- The same behind frames, where the word before is known too.
+  pub found_framed : {book : List ℕ} {r : Redex} (before : Meaning)
+      → meaning_of before ≡ meaning (word_at ws (at - 1))
+      → (at ≡ 0 → ⊥)
+      → ((s : Bool) → get_or (framed s at (at - 1) (variant_kind before)) (variant_kind m) Stuck ≡ r)
+      → (B : Book) (t : Term)
+      → Holds B book
+      → Keeps B t ws
+      → r ≡ locate (sight who B) t
+  found_framed {r = r} before known-before framing each =
+      let P : Bool → ℕ → Type 0 = λ s p. get_or (framed s at (at - 1) p) (variant_kind m) Stuck ≡ r in
+      found (λ root. absurd (framing root)) (λ _ s. kind_by (P s) before (word_at ws (at - 1)) known-before (each s))

@@ -1,15 +1,13 @@
 -- A name as the redex: its word tells its number, which is one of the book, and the body that stands for it is that of its definition, by
 -- whoever sees it. Noted at the node, the body is what the name steps to.
 use Prim.Native.Nat.{ℕ, ◌+◌, ◌*◌, ◌≤◌, ◌<◌}
-use mathlib.Core.Bool.{false, true≢false}
-use mathlib.Core.List.{List, [], ◌∷◌}
+use mathlib.Core.Bool.{true≢false}
+use mathlib.Core.List.{List}
 use mathlib.Core.Option.{some}
-use mathlib.Core.Path.{◌≡◌, refl, sym, ap, subst, ◌∙◌}
+use mathlib.Core.Path.{◌≡◌, sym, ap, subst, ◌∙◌}
 use native.Mathlib.Omega.{arith}
-use lib.Dec.{eqb}
 use lib.ListN.{length}
 use lib.Seq.{sets}
-use types.Run.{OneOf}
 use Rattle.calculus.specs.Term.{Term, name, size}
 use Rattle.calculus.specs.Words.{Named}
 use Rattle.calculus.specs.Book.{Definition, Book, entry}
@@ -21,29 +19,29 @@ use Rattle.term.specs.Word.{meaning_of}
 use Rattle.term.specs.declared.word.Meaning.{Meaning}
 use Rattle.term.specs.declared.word.Meaning.TheVariants as word
 use Rattle.term.proofs.Keeping.{kept_length, lies_name}
-use Rattle.term.proofs.Visits.{tag, Each, at_one}
 use Rattle.book.specs.Layout.{Defines, Holds, sight}
 use Rattle.book.specs.declared.Reader.{Reader}
 use Rattle.book.proofs.Entries.{entry_of, bodies_entry, sight_bodies}
 use Rattle.kept.specs.Writing.{Puts}
 use Rattle.reduction.specs.Stepping.{Keeps, locate}
 use Rattle.reduction.specs.declared.stepping.Redex.TheVariants as redex
-use Rattle.reduction.proofs.WordKinds.{index, tag_index}
 use Rattle.reduction.proofs.Heads.{name_means}
 use Rattle.reduction.proofs.Redexes.{splits_at}
 use Rattle.reduction.proofs.Surrounding.{around_lies}
 use Rattle.reduction.proofs.Placing.{Placed, placed_lies, placed_named}
 
 -- A word that means a name is classified by no other variant.
-pub no_other : (m : Meaning) (i : ℕ)
-    → meaning_of m ≡ a_name i
-    → OneOf (0 ∷ 1 ∷ 2 ∷ 3 ∷ 4 ∷ 5 ∷ 6 ∷ 7 ∷ 8 ∷ []) (tag m)
-    → ⊥
-no_other m i h one =
-    let others : List ℕ = 0 ∷ 1 ∷ 2 ∷ 3 ∷ 4 ∷ 5 ∷ 6 ∷ 7 ∷ 8 ∷ [] in
-    let each : Each (λ k. eqb k 9 ≡ false) others = (refl, (refl, (refl, (refl, (refl, (refl, (refl, (refl, (refl, tt))))))))) in
-    let other : eqb (tag m) 9 ≡ false = at_one (λ k. eqb k 9 ≡ false) others each (tag m) one in
-    true≢false (ap (λ k. eqb k 9) (sym (tag_index m ∙ ap index h)) ∙ other)
+pub no_other : (m : Meaning) (i : ℕ) → meaning_of m ≡ a_name i → m ≡ word.Name i
+no_other word.Star i h = absurd (true≢false (cc h))
+no_other word.CastDown i h = absurd (true≢false (cc h))
+no_other word.Application i h = absurd (true≢false (cc h))
+no_other word.CastUp i h = absurd (true≢false (cc h))
+no_other word.Abstraction i h = absurd (true≢false (cc h))
+no_other word.Product i h = absurd (true≢false (cc h))
+no_other word.Recursion i h = absurd (true≢false (cc h))
+no_other (word.Variable n) i h = absurd (true≢false (cc h))
+no_other word.Nothing i h = absurd (true≢false (cc h))
+no_other (word.Name n) i h = ap word.Name (cc h)
 
 module _ {ws : List ℕ} {at i : ℕ} (p : Placed ws at (name i)) {book : List ℕ} {B : Book} {t : Term} (held : Holds B book)
     (keeps : Keeps B t ws) where
