@@ -14,7 +14,7 @@ const LONG: u32 = 100000;
 
 // How much of the buffer is filled, how many answers were made and how many of these are written out whole, and the system's number of
 // what keeps the rest from being written, 0 for nothing.
-#[derive(Drop)]
+#[derive(Clone, Copy)]
 pub struct Output {
     pub filled: usize,
     pub answered: u64,

@@ -31,7 +31,7 @@ pub const BARE: u32 = 1;
 pub const BARRED: u32 = 2;
 
 // What is known of a line so far.
-#[derive(Drop)]
+#[derive(Clone, Copy)]
 pub struct Request {
     // 0 before the verb's end, 1 among the numbers, 2 behind the bar
     pub phase: u32,

@@ -1,4 +1,6 @@
 // The report program of document 01: reads a term as words of two bytes, low byte first, and prints its type and its run.
+#![tactic(auto)]
+
 ghost use Rattle.std.specs.Prelude.{◌+◌, ◌*◌, ◌≤◌, [], ◌∷◌, ◌++◌, ◌≡◌, length};
 ghost use Rattle.std.proofs.lemmas.List.Edits.{sets};
 ghost use Rattle.text.specs.Appending.{Appends};
@@ -8,7 +10,7 @@ ghost use Rattle.report.specs.Shown.{shown, Tells, Prints};
 
 use evaluation::Desk;
 use feguavy::{feguavy_check, feguavy_run};
-use libc::{STDIN_FILENO, STDOUT_FILENO};
+use streams::Devices;
 use term::walk::span;
 use text::{front, words};
 
@@ -123,17 +125,17 @@ fn report(bytes: &[u8], out: &mut [u8]) -> usize
 }
 
 // What cannot be read or written is said on standard error: a program has no exit status to say it with.
-fn main() {
+fn main(rt: HostRuntime) {
     let mut bytes = [0u8; 2049];
     let mut out = [0u8; 8192];
-    let got = streams::read_full(STDIN_FILENO, &mut bytes);
+    let got = streams::read_full(&rt, &mut rt.input(), &mut bytes);
     if got.error != 0 {
-        return streams::say(b"report: standard input", got.error);
+        return streams::say(&rt, b"report: standard input", got.error);
     }
     let count = got.count;
     let length = report(&bytes[..count], &mut out);
-    let put = streams::write_all(STDOUT_FILENO, &out[..length]);
+    let put = streams::write_all(&rt, &mut rt.output(), &out[..length]);
     if put.error != 0 {
-        streams::say(b"report: standard output", put.error);
+        streams::say(&rt, b"report: standard output", put.error);
     }
 }

@@ -1,5 +1,7 @@
 // Request lines from standard input to its end, and their answers: what `batch` and `serial` do. Where the desk is kept, a request
 // finds the one that those before it left; otherwise each is answered by itself.
+#![tactic(auto)]
+
 ghost use Rattle.std.specs.Prelude.{not, ◌≡◌, eqb};
 ghost use Rattle.protocol.specs.Desks.{Serves};
 ghost use Rattle.session.specs.Sessions.{
@@ -25,7 +27,7 @@ use protocol::{answer, desk};
 use streams::Devices;
 
 // The request being read, the answers to those before it, the desk that they left, and whether it is kept.
-#[derive(Drop)]
+#[derive(Clone, Copy)]
 pub struct Session {
     pub request: Request,
     pub output: Output,

@@ -1,10 +1,12 @@
 // A test program: checks and runs on slices of every boundary length, filled with garbage, one a line, with what the slices hold
 // afterwards.
+#![tactic(auto)]
+
 ghost use Rattle.std.specs.Prelude.{◌≤◌};
 
 use evaluation::Desk;
 use feguavy::{CheckedNumbers, RanNumbers, feguavy_check, feguavy_run};
-use libc::STDOUT_FILENO;
+use streams::Devices;
 use text::front;
 
 // The longest slices that are lent: three words more than a check asks for at the greatest limit.
@@ -93,10 +95,10 @@ fn checked(term: &[u16], limit: u32, work: &mut [u16], res: &mut [u16]) -> Check
 }
 
 // Writes a line out. Where that fails, standard error says so, and the stored output differs.
-fn print(line: &[u8]) {
-    let put = streams::write_all(STDOUT_FILENO, line);
+fn print<R: Devices>(rt: &R, line: &[u8]) {
+    let put = streams::write_all(rt, &mut rt.output(), line);
     if put.error != 0 {
-        streams::say(b"slices: standard output", put.error);
+        streams::say(rt, b"slices: standard output", put.error);
     }
 }
 
@@ -109,16 +111,16 @@ fn put_checked(term: &[u16], limit: u32, r: CheckedNumbers, out: &mut [u8]) -> u
 }
 
 // A check, and the line that tells of it.
-fn try_check(term: &[u16], limit: u32, work: &mut [u16], res: &mut [u16]) {
+fn try_check<R: Devices>(rt: &R, term: &[u16], limit: u32, work: &mut [u16], res: &mut [u16]) {
     let mut out = [0u8; 16384];
     let r = checked(term, limit, work, res);
     let answered = put_checked(term, limit, r, &mut out);
     let all = put_slices(work, res, &mut out, answered);
-    print(text::filled(&out, all));
+    print(rt, text::filled(&out, all));
 }
 
 // Whose run it is, the steps asked for, and the desk.
-#[derive(Drop)]
+#[derive(Clone, Copy)]
 struct Asked {
     caller: u32,
     budget: u32,
@@ -165,18 +167,19 @@ fn put_ran(term: &[u16], asked: Asked, r: RanNumbers, out: &mut [u8]) -> usize {
 }
 
 // A run, and the line that tells of it, with ` left` and the desk afterwards.
-fn try_run(term: &[u16], asked: Asked, work: &mut [u16], res: &mut [u16]) {
+fn try_run<R: Devices>(rt: &R, term: &[u16], asked: Asked, work: &mut [u16], res: &mut [u16]) {
     let mut out = [0u8; 16384];
     let r = ran(term, asked, work, res);
     let answered = put_ran(term, asked, r, &mut out);
     let named = text::bytes(b" left", &mut out, answered);
     let left = put_desk(r.desk, &mut out, named);
     let all = put_slices(work, res, &mut out, left);
-    print(text::filled(&out, all));
+    print(rt, text::filled(&out, all));
 }
 
 // A check on the first `room` and `size` words, where there are so many.
-fn check_parts(
+fn check_parts<R: Devices>(
+    rt: &R,
     term: &[u16],
     limit: u32,
     work: &mut [u16],
@@ -186,20 +189,21 @@ fn check_parts(
 ) {
     if room <= work.len() {
         if size <= res.len() {
-            try_check(term, limit, &mut work[..room], &mut res[..size]);
+            try_check(rt, term, limit, &mut work[..room], &mut res[..size]);
         }
     }
 }
 
 // A check on slices of `room` and `size` words.
-fn check_on(term: &[u16], limit: u32, room: usize, size: usize) {
+fn check_on<R: Devices>(rt: &R, term: &[u16], limit: u32, room: usize, size: usize) {
     let mut work = [0u16; WORK];
     let mut result = [0u16; RESULT];
-    check_parts(term, limit, &mut work, room, &mut result, size);
+    check_parts(rt, term, limit, &mut work, room, &mut result, size);
 }
 
 // A run on the first `room` and `size` words, where there are so many.
-fn run_parts(
+fn run_parts<R: Devices>(
+    rt: &R,
     term: &[u16],
     asked: Asked,
     work: &mut [u16],
@@ -209,65 +213,72 @@ fn run_parts(
 ) {
     if room <= work.len() {
         if size <= res.len() {
-            try_run(term, asked, &mut work[..room], &mut res[..size]);
+            try_run(rt, term, asked, &mut work[..room], &mut res[..size]);
         }
     }
 }
 
 // A run on slices of `room` and `size` words.
-fn run_on(term: &[u16], asked: Asked, room: usize, size: usize) {
+fn run_on<R: Devices>(rt: &R, term: &[u16], asked: Asked, room: usize, size: usize) {
     let mut work = [0u16; 8195];
     let mut result = [0u16; RESULT];
-    run_parts(term, asked, &mut work, room, &mut result, size);
+    run_parts(rt, term, asked, &mut work, room, &mut result, size);
 }
 
 // A check at each boundary length for a limit.
-fn check_all(term: &[u16], limit: u32) {
+fn check_all<R: Devices>(rt: &R, term: &[u16], limit: u32) {
     let room = least(1024 * (limit as usize), WORK);
     let size = least(limit as usize, RESULT);
-    check_on(term, limit, room, size);
-    check_on(term, limit, least(room + 3, WORK), least(size + 3, RESULT));
-    check_on(term, limit, 0, size);
-    check_on(term, limit, room, 0);
+    check_on(rt, term, limit, room, size);
+    check_on(
+        rt,
+        term,
+        limit,
+        least(room + 3, WORK),
+        least(size + 3, RESULT),
+    );
+    check_on(rt, term, limit, 0, size);
+    check_on(rt, term, limit, room, 0);
     if 0 < room {
         if 0 < size {
-            check_on(term, limit, room - 1, size);
-            check_on(term, limit, room, size - 1);
-            check_on(term, limit, room - 1, size - 1);
+            check_on(rt, term, limit, room - 1, size);
+            check_on(rt, term, limit, room, size - 1);
+            check_on(rt, term, limit, room - 1, size - 1);
         }
     }
 }
 
-fn check_limits(term: &[u16]) {
-    check_all(term, 0);
-    check_all(term, 1);
-    check_all(term, 4);
-    check_all(term, 5);
-    check_all(term, 64);
-    check_all(term, 1023);
-    check_all(term, 1024);
-    check_all(term, 1025);
-    check_all(term, 4294967295);
+fn check_limits<R: Devices>(rt: &R, term: &[u16]) {
+    check_all(rt, term, 0);
+    check_all(rt, term, 1);
+    check_all(rt, term, 4);
+    check_all(rt, term, 5);
+    check_all(rt, term, 64);
+    check_all(rt, term, 1023);
+    check_all(rt, term, 1024);
+    check_all(rt, term, 1025);
+    check_all(rt, term, 4294967295);
 }
 
 // A run at each boundary length.
-fn run_all(term: &[u16], asked: Asked) {
-    run_on(term, asked, 8192, 1024);
-    run_on(term, asked, 8195, 1027);
-    run_on(term, asked, 8191, 1024);
-    run_on(term, asked, 8192, 1023);
-    run_on(term, asked, 8191, 1023);
-    run_on(term, asked, 0, 0);
+fn run_all<R: Devices>(rt: &R, term: &[u16], asked: Asked) {
+    run_on(rt, term, asked, 8192, 1024);
+    run_on(rt, term, asked, 8195, 1027);
+    run_on(rt, term, asked, 8191, 1024);
+    run_on(rt, term, asked, 8192, 1023);
+    run_on(rt, term, asked, 8191, 1023);
+    run_on(rt, term, asked, 0, 0);
 }
 
 // A run of a caller whose neighbours have other allowances than it has; past the eighth there is none.
-fn run_for(term: &[u16], caller: u32, budget: u32, allowance: u32) {
+fn run_for<R: Devices>(rt: &R, term: &[u16], caller: u32, budget: u32, allowance: u32) {
     let mut allowances = [11u32, 12, 13, 14, 15, 16, 17, 4294967295];
     let at = caller as usize;
     if at < 8 {
         allowances[at] = allowance;
     }
     run_all(
+        rt,
         term,
         Asked {
             caller,
@@ -277,31 +288,31 @@ fn run_for(term: &[u16], caller: u32, budget: u32, allowance: u32) {
     );
 }
 
-fn run_budgets(term: &[u16]) {
-    run_for(term, 0, 0, 7);
-    run_for(term, 3, 1, 7);
-    run_for(term, 7, 3, 2);
-    run_for(term, 0, 1000, 4294967295);
-    run_for(term, 6, 5, 0);
-    run_for(term, 8, 5, 0);
-    run_for(term, 4294967295, 1, 0);
+fn run_budgets<R: Devices>(rt: &R, term: &[u16]) {
+    run_for(rt, term, 0, 0, 7);
+    run_for(rt, term, 3, 1, 7);
+    run_for(rt, term, 7, 3, 2);
+    run_for(rt, term, 0, 1000, 4294967295);
+    run_for(rt, term, 6, 5, 0);
+    run_for(rt, term, 8, 5, 0);
+    run_for(rt, term, 4294967295, 1, 0);
 }
 
-fn all(term: &[u16]) {
-    check_limits(term);
-    run_budgets(term);
+fn all<R: Devices>(rt: &R, term: &[u16]) {
+    check_limits(rt, term);
+    run_budgets(rt, term);
 }
 
 // Star, a down cast on an up cast, a term that is stuck, the identity, one that runs on, one that grows; and words that are no
 // term: a list that ends too early, a word with no meaning, no words.
-fn main() {
-    all(&[0]);
-    all(&[1, 3, 2, 4, 0, 16, 0, 0]);
-    all(&[2, 0, 0]);
-    all(&[4, 0, 4, 16, 16]);
-    all(&[6, 0, 16]);
-    all(&[6, 0, 2, 16, 16]);
-    all(&[2, 0]);
-    all(&[7]);
-    all(&[]);
+fn main(rt: HostRuntime) {
+    all(&rt, &[0]);
+    all(&rt, &[1, 3, 2, 4, 0, 16, 0, 0]);
+    all(&rt, &[2, 0, 0]);
+    all(&rt, &[4, 0, 4, 16, 16]);
+    all(&rt, &[6, 0, 16]);
+    all(&rt, &[6, 0, 2, 16, 16]);
+    all(&rt, &[2, 0]);
+    all(&rt, &[7]);
+    all(&rt, &[]);
 }
