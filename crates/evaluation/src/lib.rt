@@ -1,5 +1,7 @@
 // Runs (document 01, Calls): a closed term stepped within a grant over a book, of which "runs unfold all" (document 02, 2.3), and the
 // desk from which the steps are taken (document 02, 2.9).
+#![tactic(auto)]
+
 ghost use Rattle.std.specs.Prelude.{◌≡◌, ℕ, ◌+◌, ◌*◌, ◌≤◌, ◌<◌, not, List, [], length, take, drop};
 ghost use Rattle.calculus.specs.Term.{Term};
 ghost use Rattle.calculus.specs.Book.{Book, bodies};
@@ -25,7 +27,7 @@ use term::refusal::{Reason, Refusal};
 
 // An allowance of steps for each of the eight callers.
 #[repr(C)]
-#[derive(Drop)]
+#[derive(Clone, Copy)]
 pub struct Desk {
     pub allowances: [u32; 8],
 }
@@ -73,7 +75,7 @@ pub enum End {
 }
 
 // The steps that a run took, in all and by kind.
-#[derive(Drop)]
+#[derive(Clone, Copy)]
 pub struct Steps {
     pub total: u32,
     pub substitutions: u32,

@@ -1,6 +1,8 @@
 // The type of a subterm, in document 01's order ("Typing, in checking order") and under its names. The type found is kept in the
 // working slice from the node `top` on; what lies before stays. `held` has room for two kept terms, for the moment in which a type is
 // moved: of what it holds afterwards nothing is said.
+#![tactic(auto)]
+
 ghost use Rattle.std.specs.Prelude.{◌≡◌, ◌+◌, ◌*◌, ◌≤◌, length};
 ghost use Rattle.calculus.specs.Term.{Term, app, castdown, castup, lam, mu, pi};
 ghost use Rattle.calculus.specs.Words.{longest};

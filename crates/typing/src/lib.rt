@@ -1,4 +1,6 @@
 // The check (document 01, Calls): the type of a closed term within a limit, or the first rule that fails.
+#![tactic(auto)]
+
 ghost use Rattle.std.specs.Prelude.{◌≡◌};
 ghost use Rattle.calculus.specs.Outcomes.{check};
 ghost use Rattle.typing.specs.Outcomes.{checked_of};
