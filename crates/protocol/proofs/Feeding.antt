@@ -15,10 +15,9 @@ parts b (inl e) = ap parting e
 parts b (inr (inl e)) = ap parting e
 parts b (inr (inr e)) = ap parting e
 
-pub parts_not : (b : ℕ) → ((b ≡ 9) ⊎ ((b ≡ 13) ⊎ (b ≡ 32)) → ⊥) → parting b ≡ false
+pub parts_not : (b : ℕ) → (b ≡ 9 → ⊥) → (b ≡ 13 → ⊥) → (b ≡ 32 → ⊥) → parting b ≡ false
 unfolding parting
-parts_not b h =
-    rw (ne_eqb b 9 (λ e. h (inl e)), ne_eqb b 13 (λ e. h (inr (inl e))), ne_eqb b 32 (λ e. h (inr (inr e)))) refl
+parts_not b t r s = rw (ne_eqb b 9 t, ne_eqb b 13 r, ne_eqb b 32 s) refl
 
 bar_parts_not : (b : ℕ) → b ≡ 124 → parting b ≡ false
 unfolding parting
@@ -33,16 +32,19 @@ module _ (q : Request) (b : ℕ) (ws : List ℕ) where
   unfolding fed
   fed_bar e = rw (bar_parts_not b e, eq-eqb b 124 e) refl
 
+  pub fed_digit : 48 ≤ b → b < 58 → line_of (digit (touched q) (b - 48)) ws ≡ fed q b ws
+  unfolding fed
+  fed_digit l h =
+      rw (parts_not b (omega arith) (omega arith) (omega arith), ne_eqb b 124 (omega arith), le-leb 48 b l, lt-ltb b 58 h)
+      refl
+
+  pub fed_letter : 97 ≤ b → b < 123 → line_of (letter (touched q) b) ws ≡ fed q b ws
+  unfolding fed
+  fed_letter l h =
+      rw (parts_not b (omega arith) (omega arith) (omega arith), ne_eqb b 124 (omega arith))
+      (rw (le-leb 48 b (omega arith), le-ltb b 58 (omega arith), le-leb 97 b l, lt-ltb b 123 h) refl)
+
   module _ (p : parting b ≡ false) (n : b ≡ 124 → ⊥) where
-    pub fed_digit : 48 ≤ b → b < 58 → line_of (digit (touched q) (b - 48)) ws ≡ fed q b ws
-    unfolding fed
-    fed_digit l h = rw (p, ne_eqb b 124 n, le-leb 48 b l, lt-ltb b 58 h) refl
-
-    pub fed_letter : 97 ≤ b → b < 123 → line_of (letter (touched q) b) ws ≡ fed q b ws
-    unfolding fed
-    fed_letter l h =
-        rw (p, ne_eqb b 124 n, le-leb 48 b (omega arith), le-ltb b 58 (omega arith), le-leb 97 b l, lt-ltb b 123 h) refl
-
     pub fed_below : b < 48 → line_of (refused (touched q)) ws ≡ fed q b ws
     unfolding fed
     fed_below h = rw (p, ne_eqb b 124 n, lt-leb 48 b h, lt-leb 97 b (omega arith)) refl

@@ -1,9 +1,7 @@
 -- What a function answers about a line is what the definition of its step says: each test of the code decides a test of the definition.
 use Prim.Native.Nat.{ℕ, ◌+◌, ◌*◌, ◌%◌, ◌≤◌, ◌<◌}
-use mathlib.Core.Bool.{true, false}
 use mathlib.Core.List.{List}
 use mathlib.Core.Path.{◌≡◌, refl}
-use lib.Dec.{eqb}
 use lib.ListN.{length, set}
 use borrow.Author.Tests.{eq-eqb, ne_eqb, lt-ltb, le-ltb}
 use Rattle.protocol.specs.Requests.{known, reading, keeping, refused, letter, digit, desk_topic, named, pushed, number, Line, line_of, word, field_end, barred}
@@ -39,13 +37,13 @@ module _ (q : Request) (b : ℕ) where
 -- The letters in front of the numbers.
 module _ (q : Request) (l : ℕ) where
   module _ (d : l ≡ desk_topic) where
-    pub named_topic : eqb q.topic 0 ≡ true → known q 0 l q.verb q.values q.numbers ≡ named q l
+    pub named_topic : q.topic ≡ 0 → known q 0 l q.verb q.values q.numbers ≡ named q l
     unfolding named
-    named_topic t = rw (eq-eqb l desk_topic d, t) refl
+    named_topic t = rw (eq-eqb l desk_topic d, eq-eqb q.topic 0 t) refl
 
-    pub named_again : eqb q.topic 0 ≡ false → known q 1 q.topic l q.values q.numbers ≡ named q l
+    pub named_again : (q.topic ≡ 0 → ⊥) → known q 1 q.topic l q.values q.numbers ≡ named q l
     unfolding named
-    named_again t = rw (eq-eqb l desk_topic d, t) refl
+    named_again t = rw (eq-eqb l desk_topic d, ne_eqb q.topic 0 t) refl
 
   pub named_verb : (l ≡ desk_topic → ⊥) → known q 1 q.topic l q.values q.numbers ≡ named q l
   unfolding named

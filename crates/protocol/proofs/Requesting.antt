@@ -1,8 +1,8 @@
 -- Which line answers a request: each test of the code decides a test of `asks` or of `reply`.
 use Prim.Native.Nat.{ℕ}
-use mathlib.Core.Bool.{Bool, true, false, not, ◌||◌}
+use mathlib.Core.Bool.{Bool, true, false, ◌||◌}
 use mathlib.Core.List.{List}
-use mathlib.Core.Path.{◌≡◌, refl, sym}
+use mathlib.Core.Path.{◌≡◌, refl}
 use lib.Dec.{eqb}
 use lib.ListN.{take}
 use borrow.Author.Tests.{eq-eqb, ne_eqb}
@@ -38,14 +38,6 @@ module _ (q : Request) (topic verb numbers phase : ℕ) where
         pub by_phase : q.numbers ≡ numbers → eqb q.phase phase ≡ asks q topic verb numbers phase
         unfolding asks
         by_phase n = rw (w, eq-eqb q.topic topic t, eq-eqb q.verb verb v, eq-eqb q.numbers numbers n) refl
-
-pub not_true : (b : Bool) → not b ≡ true → b ≡ false
-not_true true e = sym e
-not_true false e = refl
-
-pub not_false : (b : Bool) → not b ≡ false → b ≡ true
-not_false true e = refl
-not_false false e = sym e
 
 -- One of two tests: the first where it is true, and else the second.
 pub first_test : (x y : Bool) → x ≡ true → x ≡ x || y
