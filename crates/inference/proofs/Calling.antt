@@ -12,7 +12,6 @@ use Rattle.calculus.specs.Answer.{ok}
 use Rattle.calculus.specs.Words.{emit, words, Scoped, longest, Worded}
 use Rattle.calculus.specs.Meaning.{meaning, a_pi}
 use Rattle.calculus.specs.Rules.{Context}
-use Rattle.calculus.specs.Infer.{infer}
 use Rattle.calculus.proofs.Scoping.{scoped_more}
 use Rattle.term.specs.Kept.{kept, word_at}
 use Rattle.inference.specs.Inference.{judge, Subject}

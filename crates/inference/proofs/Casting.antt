@@ -7,7 +7,7 @@ use Rattle.calculus.specs.Term.{Term, star, castup, castdown, size}
 use Rattle.calculus.specs.Answer.{Answer, ok, refused, ◌>>=◌, ◌>>◌, require, no_step, wrong_cast, over_limit}
 use Rattle.calculus.specs.Rules.{Context}
 use Rattle.calculus.specs.Kinds.{Kind}
-use Rattle.calculus.specs.Step.{next, step}
+use Rattle.calculus.specs.Step.{next}
 use Rattle.calculus.specs.Infer.{infer, same, measure, stepped}
 use Rattle.calculus.proofs.Testing.{equal, unequal, fitting, over}
 use Rattle.inference.specs.Inference.{judge, star_typed}

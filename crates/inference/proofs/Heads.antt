@@ -1,31 +1,25 @@
 -- The first word of a term says which node it is, in the words read and where a type is kept that was found: so the code's one
 -- decision over a word is a decision over terms.
 use Prim.Native.Nat.{ℕ, ◌*◌}
-use mathlib.Core.Bool.{not}
-use mathlib.Core.List.{List, [], ◌∷◌}
+use mathlib.Core.List.{List, []}
 use mathlib.Core.Logic.{◌≢◌}
 use mathlib.Core.Path.{◌≡◌, refl, sym, ap, subst, ◌∙◌}
 use native.Mathlib.Nat.{add-zero}
 use native.Mathlib.Omega.{arith}
-use lib.Dec.{T}
 use lib.ListN.{take, drop, get_or}
 use lib.Seq.{get_or-take, get_or-drop}
-use mir.Val.{has_key}
-use types.Run.{OneOf, miss}
 use Rattle.calculus.specs.Term.{Term, var, star, app, lam, pi, castup, castdown, mu, name, size}
 use Rattle.calculus.specs.Answer.{Answer}
 use Rattle.calculus.specs.Words.{emit, Scoped, Named, deepest}
 use Rattle.calculus.specs.Meaning as calculus
 use Rattle.calculus.specs.Meaning.{meaning, a_star, a_castdown, an_app, a_castup, a_lam, a_pi, a_mu, a_variable, a_name, nothing}
 use Rattle.calculus.specs.Rules.{Context}
-use Rattle.calculus.specs.Infer.{infer}
 use Rattle.calculus.proofs.Coding.{size_positive}
 use Rattle.calculus.proofs.Meanings.{meaning_word, word, Indexed}
 use Rattle.term.specs.Kept.{keep, kept, word_at}
 use Rattle.term.specs.Word.{meaning_of}
 use Rattle.term.specs.declared.word.Meaning.{Meaning}
-use Rattle.term.proofs.Visits.{tag}
-use Rattle.reduction.proofs.WordKinds.{index, tag_index}
+use Rattle.term.specs.declared.word.Meaning.TheVariants as code
 use Rattle.inference.specs.Inference.{judge, Subject}
 use Rattle.inference.proofs.Rooms.{own_scope, deeper_scoped}
 use Rattle.inference.proofs.Types.{type_scoped, type_named}
@@ -113,12 +107,27 @@ pub type_meaning : {x : Answer Term} {e τ : Term} {places : List ℕ} {depth : 
 type_meaning {τ} {top} {m} {after} part x =
     ap meaning (lying_word τ m top after (part.lies ∙ ap kept x) (part.long ∙ ap size x))
 
--- What a decision says that takes another way.
-other : (ks : List ℕ) (m : calculus.Meaning) (r : Meaning) → T (not (has_key ks (index m))) → OneOf ks (tag r) → meaning_of r ≢ m
-other ks m r n h x = miss ks (tag r) (subst (λ k. T (not (has_key ks k))) (sym (tag_index r ∙ ap index x)) n) h
+-- What a decision says that takes another way: another variant means another node.
+pub not_star : (r : Meaning) → (r ≡ code.Star → ⊥) → meaning_of r ≢ a_star
+not_star code.Star n x = n refl
+not_star code.CastDown n x = absurd cc
+not_star code.Application n x = absurd cc
+not_star code.CastUp n x = absurd cc
+not_star code.Abstraction n x = absurd cc
+not_star code.Product n x = absurd cc
+not_star code.Recursion n x = absurd cc
+not_star (code.Variable i) n x = absurd cc
+not_star code.Nothing n x = absurd cc
+not_star (code.Name i) n x = absurd cc
 
-pub not_star : (r : Meaning) → OneOf (1 ∷ 2 ∷ 3 ∷ 4 ∷ 5 ∷ 6 ∷ 7 ∷ 8 ∷ 9 ∷ []) (tag r) → meaning_of r ≢ a_star
-not_star r h = other (1 ∷ 2 ∷ 3 ∷ 4 ∷ 5 ∷ 6 ∷ 7 ∷ 8 ∷ 9 ∷ []) a_star r tt h
-
-pub not_product : (r : Meaning) → OneOf (0 ∷ 1 ∷ 2 ∷ 3 ∷ 4 ∷ 5 ∷ 7 ∷ 8 ∷ 9 ∷ []) (tag r) → meaning_of r ≢ a_pi
-not_product r h = other (0 ∷ 1 ∷ 2 ∷ 3 ∷ 4 ∷ 5 ∷ 7 ∷ 8 ∷ 9 ∷ []) a_pi r tt h
+pub not_product : (r : Meaning) → (r ≡ code.Product → ⊥) → meaning_of r ≢ a_pi
+not_product code.Star n x = absurd cc
+not_product code.CastDown n x = absurd cc
+not_product code.Application n x = absurd cc
+not_product code.CastUp n x = absurd cc
+not_product code.Abstraction n x = absurd cc
+not_product code.Product n x = n refl
+not_product code.Recursion n x = absurd cc
+not_product (code.Variable i) n x = absurd cc
+not_product code.Nothing n x = absurd cc
+not_product (code.Name i) n x = absurd cc

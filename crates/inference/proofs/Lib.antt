@@ -27,3 +27,7 @@ pub mod Products
 pub mod Variables
 pub mod Named
 pub mod Maps
+pub mod Measured
+pub mod Starring
+pub mod Producing
+pub mod Asked

@@ -1,13 +1,12 @@
 -- What a step within the limit says of the calculus. There is no next state, or one that is within the limit, or one over it, and
 -- each has its own answer: so where the code found no step there is none, where it did not fit the next state is over the limit,
 -- and otherwise the next state lies where it was to be written.
-use Prim.Native.Nat.{ℕ, suc, ◌*◌, ◌≤◌, ◌<◌}
+use Prim.Native.Nat.{ℕ, ◌*◌, ◌≤◌, ◌<◌}
 use mathlib.Core.Bool.{true≢false}
 use mathlib.Core.List.{List}
 use mathlib.Core.Logic.{◌⊎◌, ⊎_elim}
-use mathlib.Core.Path.{◌≡◌, refl, ap, ◌∙◌}
+use mathlib.Core.Path.{◌≡◌, refl, sym, ap, ◌∙◌}
 use native.Mathlib.Omega.{arith}
-use denote.Enum.Declared.{tag_of}
 use lib.ListN.{take}
 use lib.Seq.{sets}
 use Rattle.calculus.specs.Term.{Term, size}
@@ -18,8 +17,7 @@ use Rattle.calculus.specs.Infer.{stepped}
 use Rattle.term.specs.Kept.{kept}
 use Rattle.reduction.specs.declared.stepping.Kind as code
 use Rattle.reduction.specs.declared.stepping.Stepped.{Stepped}
-use Rattle.reduction.specs.declared.stepping.Stepped.TheVariants.{To, Full}
-use Rattle.reduction.specs.contracts.stepping.Stepped.{the_type}
+use Rattle.reduction.specs.declared.stepping.Stepped.TheVariants.{Value, Stuck, To, Full}
 use Rattle.kept.proofs.Stores.{take_sets}
 use Rattle.inference.specs.Moving.{Moves}
 use Rattle.inference.proofs.Putting.{within_or_over}
@@ -39,10 +37,6 @@ pub moved_front : {n : Next} {work : List ℕ} {at limit k : ℕ} {after : List 
     → take (2 * top) after ≡ take (2 * top) work
 moved_front {work} {at} top m h =
     ap (take (2 * top)) m.stored ∙ take_sets (2 * top) work (2 * at) (kept m.state) (omega arith)
-
--- No arm but those of `Value` and `Stuck` is for no step.
-no_rest : {t n : ℕ} → t ≡ suc (suc n) → (t ≡ 0) ⊎ (t ≡ 1) → ⊥
-no_rest q k = ⊎_elim (λ z. omega arith) (λ z. omega arith) k
 
 module _ (work : List ℕ) (top limit : ℕ) (r : Stepped) (after : List ℕ) where
   -- The next state is within the limit or over it, and the answer goes by that.
@@ -71,10 +65,12 @@ module _ (work : List ℕ) (top limit : ℕ) (r : Stepped) (after : List ℕ) wh
 
   pub rests : (p : ℕ) (n : Next)
       → Moves n work top limit r after
-      → (tag_of the_type r ≡ 0) ⊎ (tag_of the_type r ≡ 1)
+      → (r ≡ Value) ⊎ (r ≡ Stuck)
       → stepped p n ≡ refused no_step p
   unfolding stepped
   rests p value m k = refl
   rests p stuck m k = refl
-  rests p (next j x) m k =
-      by_limit j x m (λ K h q s. absurd (no_rest (ap (tag_of the_type) q) k)) (λ h q. absurd (no_rest (ap (tag_of the_type) q) k))
+  rests p (next j x) m k = by_limit j x m (λ K h q s. absurd (moves_on q (λ v. absurd cc, λ v. absurd cc))) (λ h q. absurd (moves_on q (λ v. absurd cc, λ v. absurd cc)))
+    where
+      moves_on : {s : Stepped} → r ≡ s → (s ≡ Value → ⊥) × (s ≡ Stuck → ⊥) → ⊥
+      moves_on q n = ⊎_elim (λ v. n.0 (sym q ∙ v)) (λ v. n.1 (sym q ∙ v)) k

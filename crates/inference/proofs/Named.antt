@@ -2,17 +2,17 @@
 use Prim.Native.Nat.{ℕ, ◌+◌, ◌*◌, ◌≤◌}
 use mathlib.Core.List.{List}
 use mathlib.Core.Option.{some}
-use mathlib.Core.Path.{◌≡◌, refl, ap, ◌∙◌}
+use mathlib.Core.Path.{◌≡◌, refl}
 use native.Mathlib.Omega.{arith}
 use lib.ListN.{length}
-use Rattle.calculus.specs.Term.{Term, name, size}
+use Rattle.calculus.specs.Term.{name, size}
 use Rattle.calculus.specs.Words.{Named}
-use Rattle.calculus.specs.Book.{Definition, entry, types}
+use Rattle.calculus.specs.Book.{Definition, entry}
 use Rattle.calculus.specs.Rules.{Context}
-use Rattle.calculus.specs.Infer.{infer, stored, measure}
+use Rattle.calculus.specs.Infer.{infer, stored}
 use Rattle.calculus.proofs.Testing.{fitting, over}
 use Rattle.book.specs.declared.Reader.{Reader}
-use Rattle.book.specs.Layout.{Defines, decode, entries}
+use Rattle.book.specs.Layout.{Defines, decode}
 use Rattle.book.proofs.Entries.{entry_of, types_entry}
 use Rattle.inference.specs.declared.Inferred.{Inferred}
 use Rattle.inference.specs.Inference.{judge, Subject, Stores, Infers, refuses}

@@ -11,7 +11,6 @@ use Rattle.calculus.specs.Term.{Term, star, size}
 use Rattle.calculus.specs.Answer.{Answer, ok}
 use Rattle.calculus.specs.Words.{words, longest, Worded}
 use Rattle.calculus.specs.Rules.{Context}
-use Rattle.calculus.specs.Infer.{infer}
 use Rattle.calculus.proofs.Coding.{size_positive, words_length}
 use Rattle.term.specs.Kept.{kept}
 use Rattle.inference.specs.Inference.{judge, Subject, star_typed}

@@ -10,7 +10,7 @@ use lib.ListN.{length, take, drop}
 use Rattle.calculus.specs.Term.{Term, Term-discrete, star, size}
 use Rattle.calculus.specs.Answer.{Answer, ok, refused, ◌>>=◌, ◌>>◌, require, not_star}
 use Rattle.calculus.specs.Rules.{Context}
-use Rattle.calculus.specs.Infer.{infer, same}
+use Rattle.calculus.specs.Infer.{same}
 use Rattle.calculus.proofs.Testing.{equal, unequal}
 use Rattle.term.specs.Kept.{kept}
 use Rattle.term.specs.Reasons.{reason_of}

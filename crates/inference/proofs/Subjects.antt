@@ -9,7 +9,7 @@ use native.Mathlib.Numerals.{add-one}
 use native.Mathlib.Omega.{arith}
 use lib.ListN.{length, take, drop, get_or, set, length-drop, length-set}
 use lib.Seq.{take_at, drop_at, drop-drop, take-take, take-set-le, get_or-take, get_or-set_same}
-use Rattle.calculus.specs.Term.{Term, star, castdown, size}
+use Rattle.calculus.specs.Term.{Term, castdown, size}
 use Rattle.calculus.specs.Words.{emit, words, levels, Scoped, Named, longest, deepest}
 use Rattle.calculus.specs.Rules.{Context}
 use Rattle.calculus.specs.Infer.{FittedContext}

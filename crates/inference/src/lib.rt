@@ -83,7 +83,7 @@ fn definition(
 
 // "Application: function; its type is a product, else 11; argument; its type equals the domain, else 12; the codomain with the
 // argument put in."
-#[cycle(abstraction_application_cast_down_cast_up_infer_product_recursion_star_part)]
+#[cycle(inferring)]
 fn application(
     term: &[u16],
     sub: &[u16],
@@ -154,7 +154,7 @@ fn application(
 }
 
 // A part whose type has to be star, else 10.
-#[cycle(abstraction_application_cast_down_cast_up_infer_product_recursion_star_part)]
+#[cycle(inferring)]
 fn star_part(
     term: &[u16],
     sub: &[u16],
@@ -185,7 +185,7 @@ fn star_part(
 
 // "Abstraction: annotation has type star, else 10; body; the product of both." The body's type is found where it will stand in the
 // product, if the product can still fit.
-#[cycle(abstraction_application_cast_down_cast_up_infer_product_recursion_star_part)]
+#[cycle(inferring)]
 fn abstraction(
     term: &[u16],
     sub: &[u16],
@@ -246,7 +246,7 @@ fn abstraction(
 }
 
 // "Product: domain has type star, else 10; then codomain under it has type star, else 10; star."
-#[cycle(abstraction_application_cast_down_cast_up_infer_product_recursion_star_part)]
+#[cycle(inferring)]
 fn product(
     term: &[u16],
     sub: &[u16],
@@ -301,7 +301,7 @@ fn product(
 
 // "Up cast: annotation has type star, else 10; body; the annotation steps, else 13; the stepped annotation is measured; it equals
 // the body's type, else 14; the annotation is the type."
-#[cycle(abstraction_application_cast_down_cast_up_infer_product_recursion_star_part)]
+#[cycle(inferring)]
 fn cast_up(
     term: &[u16],
     sub: &[u16],
@@ -381,7 +381,7 @@ fn cast_up(
 }
 
 // "Down cast: body; its type steps, else 13; the stepped type."
-#[cycle(abstraction_application_cast_down_cast_up_infer_product_recursion_star_part)]
+#[cycle(inferring)]
 fn cast_down(
     term: &[u16],
     sub: &[u16],
@@ -422,7 +422,7 @@ fn cast_down(
 }
 
 // "Recursion: annotation has type star, else 10; body under it; its type equals the raised annotation, else 15; the annotation."
-#[cycle(abstraction_application_cast_down_cast_up_infer_product_recursion_star_part)]
+#[cycle(inferring)]
 fn recursion(
     term: &[u16],
     sub: &[u16],
@@ -488,7 +488,7 @@ fn recursion(
 
 // The type of the subterm that `sub`, the end of `term`, begins with. `context` has the places of the annotations around it,
 // outermost first, of which there are `depth`.
-#[cycle(abstraction_application_cast_down_cast_up_infer_product_recursion_star_part)]
+#[cycle(inferring)]
 pub fn infer(
     term: &[u16],
     sub: &[u16],
