@@ -1,4 +1,6 @@
-// The calls `check`, `run` and `part` for C and Rust. Numbers are those of documents 01 and 02.
+// The calls `check`, `run` and `part` for Rust and, exported by `feguavy_c`, for C. Numbers are those of documents 01 and 02.
+#![tactic(auto)]
+
 ghost use Rattle.std.specs.Prelude.{[], ◌≡◌};
 ghost use Rattle.term.specs.Reasons.{number_of};
 ghost use Rattle.calculus.specs.Run.{end_number};
@@ -45,6 +47,7 @@ pub struct FoundNumbers {
 }
 
 // The number of a reason.
+#[tactic(auto, unfolding(calculus::specs::Answer::number))]
 fn number(reason: Reason) -> u32
     ensures { result ≡ number_of reason }
 {
@@ -70,6 +73,7 @@ fn number(reason: Reason) -> u32
 }
 
 // Document 01's number of an end.
+#[tactic(auto, unfolding(calculus::specs::Run::end_number))]
 fn number_of_end(end: End) -> u32
     ensures { result ≡ end_number (end_of end) }
 {
@@ -81,8 +85,7 @@ fn number_of_end(end: End) -> u32
     }
 }
 
-#[unsafe(no_mangle)]
-pub extern "C" fn feguavy_check(
+pub fn feguavy_check(
     term: &[u16],
     limit: u32,
     work: &mut [u16],
@@ -107,8 +110,7 @@ pub extern "C" fn feguavy_check(
     }
 }
 
-#[unsafe(no_mangle)]
-pub extern "C" fn feguavy_run(
+pub fn feguavy_run(
     term: &[u16],
     budget: u32,
     work: &mut [u16],
@@ -149,8 +151,7 @@ pub extern "C" fn feguavy_run(
     }
 }
 
-#[unsafe(no_mangle)]
-pub extern "C" fn feguavy_part(term: &[u16], number: u32) -> FoundNumbers
+pub fn feguavy_part(term: &[u16], number: u32) -> FoundNumbers
     ensures { found_numbers result ≡ calculus.found term.now number }
 {
     let found = find(term, number);

@@ -11,10 +11,9 @@ use lib.Seq.{sets, length-sets}
 use borrow.Rule.Slice.PartMut.{put_mid}
 use Rattle.calculus.specs.Term.{Term, app, castup, lam, mu, pi, star, size, raise, substitute, var, name}
 use Rattle.calculus.specs.Words.{longest, words, Worded}
-use Rattle.calculus.specs.Meaning.{meaning, a_pi}
 use Rattle.calculus.specs.Rules.{Context}
 use Rattle.term.specs.Word.{meaning_of}
-use Rattle.term.specs.Kept.{keep, kept, word_at}
+use Rattle.term.specs.Kept.{keep, kept}
 use Rattle.kept.proofs.InPlace.{raise_size}
 use Rattle.kept.proofs.Stores.{take_sets}
 use Rattle.inference.specs.declared.Inferred.TheVariants as inferred
@@ -548,10 +547,6 @@ cast_down-returns-in-To t c Γ e S =
 -- `application`: what is asked of function and argument is what inference asks of them, and what the product answers when it is applied
 -- is what inference answers.
 
--- The function's type is a product, by its first word.
-app_product : (t : ℕ) (c : goal.application-In-Product t) → a_pi ≡ meaning (word_at c.infer-function.new.work c.args.top)
-app_product t c = ap meaning_of (sym c.in-Product.is) ∙ c.classify.ensures
-
 -- The words and the room reach beyond the function.
 app_reach : (t : ℕ) (c : goal.application-In-Product t)
     → (1 + c.in-Typed.read ≤ length c.args.sub.now)
@@ -591,7 +586,7 @@ app_measured : (t : ℕ) (c : goal.application-In-Typed-argument t) (Γ : Contex
     judge c.args.reader c.args.book.now c.args.limit Γ p (app f u) ≡ measure c.args.limit p (substitute 0 u (app_calls t c Γ f u S).codomain)
 app_measured t c Γ f u S alike = let C = app_calls t c Γ f u S in right _ _ _ Γ _ f u C.function C.argument alike
 
--- What the helper is asked says of the application, for what it tells.
+-- What `apply` tells of the application.
 app_applies : (t : ℕ) (c : goal.application-In-Typed-argument t) (Γ : Context) (f u : Term)
     (S : Subject c.args.book.now Γ (app f u) c.args.term.now c.args.sub.now c.args.context.now c.args.depth)
     {r : Applied} {after : List ℕ}
