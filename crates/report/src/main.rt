@@ -124,7 +124,7 @@ fn report(bytes: &[u8], out: &mut [u8]) -> usize
     lines(found, &output, &state, out)
 }
 
-// What cannot be read or written is said on standard error: a program has no exit status to say it with.
+// What cannot be read or written is said on standard error, and the exit status is 0 all the same.
 fn main(rt: HostRuntime) {
     let mut bytes = [0u8; 2049];
     let mut out = [0u8; 8192];
