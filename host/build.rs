@@ -1,4 +1,4 @@
-// Links the archive that `rt staticlib feguavy` writes, or the one in the folder that FEGUAVY_ARCHIVE names.
+// Links the archive that `scripts/build feguavy` writes, or the one in the folder that FEGUAVY_ARCHIVE names.
 use std::path::PathBuf;
 
 fn main() {
@@ -10,7 +10,7 @@ fn main() {
     println!("cargo:rerun-if-changed={}", archive.display());
     if !archive.is_file() {
         eprintln!("the proved archive is not there: {}", archive.display());
-        eprintln!("write it by `rt staticlib feguavy` in the repository, or name its folder in FEGUAVY_ARCHIVE");
+        eprintln!("write it by `scripts/build feguavy` in the repository, or name its folder in FEGUAVY_ARCHIVE");
         std::process::exit(1);
     }
     println!("cargo:rustc-link-search=native={}", folder.display());

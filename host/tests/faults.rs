@@ -29,7 +29,7 @@ const PROGRAMS: [&str; 2] = ["batch", "serial"];
 
 fn program(name: &str) -> PathBuf {
     let path = Path::new(env!("CARGO_MANIFEST_DIR")).join("../target/bin").join(name);
-    assert!(path.exists(), "{} is not there: run `rt check {name}`", path.display());
+    assert!(path.exists(), "{} is not there: run `scripts/build {name}`", path.display());
     path
 }
 

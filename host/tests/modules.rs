@@ -8,7 +8,7 @@ use std::process::{Command, Output, Stdio};
 
 fn program() -> PathBuf {
     let path = Path::new(env!("CARGO_MANIFEST_DIR")).join("../target/bin/modules");
-    assert!(path.exists(), "{} is not there: run `rt check modules`", path.display());
+    assert!(path.exists(), "{} is not there: run `scripts/build modules`", path.display());
     path.canonicalize().unwrap()
 }
 

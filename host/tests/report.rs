@@ -1,4 +1,4 @@
-//! The report program on stored inputs: every byte of standard output. `rt check report` builds it, and
+//! The report program on stored inputs: every byte of standard output. `scripts/build report` builds it, and
 //! `scripts/reports` writes the stored reports.
 
 use std::collections::BTreeSet;
@@ -11,7 +11,7 @@ const CASES: &str = include_str!("report.txt");
 
 fn program() -> PathBuf {
     let path = Path::new(env!("CARGO_MANIFEST_DIR")).join("../target/bin/report");
-    assert!(path.is_file(), "{} is not there: `rt check report` builds it", path.display());
+    assert!(path.is_file(), "{} is not there: `scripts/build report` builds it", path.display());
     path
 }
 

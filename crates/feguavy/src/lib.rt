@@ -16,7 +16,7 @@ use typing::{Checked, check};
 
 // The answer of a check: 0 and the length of the type, or the number of the refusal and its place.
 #[repr(C)]
-#[derive(Drop)]
+#[derive(Clone, Copy)]
 pub struct CheckedNumbers {
     pub answer: u32,
     pub place: u32,
@@ -26,7 +26,7 @@ pub struct CheckedNumbers {
 // The answer of a run: 0 with its end and its steps, in all and by kind, or the number of the refusal and its place; and the desk
 // after it.
 #[repr(C)]
-#[derive(Drop)]
+#[derive(Clone, Copy)]
 pub struct RanNumbers {
     pub answer: u32,
     pub place: u32,
@@ -40,7 +40,7 @@ pub struct RanNumbers {
 
 // Where a part stands: 0, 0 where there is none.
 #[repr(C)]
-#[derive(Drop)]
+#[derive(Clone, Copy)]
 pub struct FoundNumbers {
     pub start: usize,
     pub length: usize,
