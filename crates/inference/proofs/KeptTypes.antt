@@ -15,7 +15,7 @@ use Rattle.kept.proofs.Stores.{take_sets}
 use Rattle.kept.proofs.InPlace.{raise_size}
 use Rattle.inference.proofs.Stored.{stored, stored_over}
 
--- The words cut out at a node are those of the term that lies there. (`lies-taken` of `term` is the other way.)
+-- The words cut out at a node are those of the term that lies there. (`lies_taken` of `term` is the other way.)
 pub cut_lies : (t : Term) (slice : List ℕ) (n : ℕ) → take (2 * size t) (drop (2 * n) slice) ≡ kept t → Lies t slice n
 cut_lies t slice n h =
     let part = drop (2 * n) slice in
