@@ -2,6 +2,7 @@
 
 use std::fs::{create_dir, remove_dir_all, write, Permissions};
 use std::io::Write;
+use std::os::unix::ffi::OsStrExt;
 use std::os::unix::fs::PermissionsExt;
 use std::path::{Path, PathBuf};
 use std::process::{Command, Output, Stdio};
@@ -128,6 +129,16 @@ fn paths_too_long_or_with_a_zero() {
     let long = "x".repeat(5000);
     let output = folder.run(&["check", "32"], format!("{long}\nzero\0byte\n").as_bytes(), Stdio::piped());
     assert_eq!(text(&output.stdout), format!("unreadable 36\t{}\nunreadable 22\tzero\0byte\n", &long[..4096]));
+}
+
+#[test]
+fn a_path_that_is_no_text() {
+    let folder = Folder::new("text");
+    let name = std::ffi::OsStr::from_bytes(b"\xff");
+    write(folder.0.join(name), bytes(&[0])).unwrap();
+    let output = folder.run(&["check", "32"], b"\xff\n", Stdio::piped());
+    assert_eq!(output.stdout, b"unreadable 84\t\xff\n");
+    assert_eq!(text(&output.stderr), "modules: 1 files answered\n");
 }
 
 #[test]
