@@ -1,3 +1,2 @@
--- The laws behind the functions' proofs, and those that callers of this crate use.
-pub mod Storing
+-- The laws that callers of this crate use; the functions' proofs need none.
 pub mod Entries

@@ -3,6 +3,7 @@
 use Prim.Native.Nat.{ℕ}
 use mathlib.Core.Bool.{true≢false}
 use mathlib.Core.List.{List}
+use Rattle.std.specs.Prelude.{Result, Ok, Err}
 use mathlib.Core.Path.{◌≡◌, refl, sym, ap, ap₂, ◌∙◌}
 use Rattle.calculus.specs.Answer.{Answer, ok}
 use Rattle.calculus.specs.Run as calculus
@@ -10,8 +11,8 @@ use Rattle.calculus.specs.Outcomes.{Stop}
 use Rattle.term.proofs.Maps.{reason_of_injective}
 use Rattle.evaluation.specs.declared.End.{End}
 use Rattle.evaluation.specs.declared.End.TheVariants as end
-use Rattle.evaluation.specs.declared.Ran.{Ran}
-use Rattle.evaluation.specs.declared.Ran.TheVariants as ran
+use Rattle.term.specs.declared.refusal.Refusal.{Refusal}
+use Rattle.evaluation.specs.declared.Ended.{Ended}
 use Rattle.evaluation.specs.declared.Outcome.{Outcome}
 use Rattle.evaluation.specs.Outcomes.{end_of, answer_of, ran_of}
 
@@ -31,9 +32,10 @@ variant_found end.Long = refl
 pub end_of_injective : (a b : End) → end_of a ≡ end_of b → a ≡ b
 end_of_injective a b e = sym (variant_found a) ∙ ap variant e ∙ variant_found b
 
-answer_of_injective : (r s : Ran) → answer_of r ≡ answer_of s → r ≡ s
-answer_of_injective (ran.Ended a m) (ran.Ended b n) e =
-    ap₂ ran.Ended (end_of_injective a b (ap (λ x. x.end) (stop e)))
+answer_of_injective : (r s : Result Ended Refusal) → answer_of r ≡ answer_of s → r ≡ s
+answer_of_injective (Ok a) (Ok b) e =
+    ap₂ (λ x m. Ok (record { end = x; steps = m }))
+    (end_of_injective a.end b.end (ap (λ x. x.end) (stop e)))
     (ap
     (λ x. record {
       total = x.steps;
@@ -45,10 +47,10 @@ answer_of_injective (ran.Ended a m) (ran.Ended b n) e =
   where
     stop : {x y : Stop} → ◌≡◌ {A = Answer Stop} (ok x) (ok y) → x ≡ y
     stop e = cc e
-answer_of_injective (ran.Ended a m) (ran.Refused g) e = absurd (true≢false (cc e))
-answer_of_injective (ran.Refused f) (ran.Ended b n) e = absurd (true≢false (cc e))
-answer_of_injective (ran.Refused f) (ran.Refused g) e =
-    ap₂ (λ r p. ran.Refused (record { reason = r; place = p })) (reason_of_injective f.reason g.reason (cc e)) (cc e)
+answer_of_injective (Ok a) (Err g) e = absurd (true≢false (cc e))
+answer_of_injective (Err f) (Ok b) e = absurd (true≢false (cc e))
+answer_of_injective (Err f) (Err g) e =
+    ap₂ (λ r p. Err (record { reason = r; place = p })) (reason_of_injective f.reason g.reason (cc e)) (cc e)
 
 pub ran_of_injective : (r s : Outcome) {W W' S S' : List ℕ} → ran_of r W S ≡ ran_of s W' S' → (r ≡ s) × (W ≡ W') × (S ≡ S')
 ran_of_injective r s e = (

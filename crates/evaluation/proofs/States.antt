@@ -4,6 +4,7 @@
 use Prim.Native.Nat.{ℕ, ◌*◌, ◌≤◌}
 use mathlib.Core.Bool.{Bool, true, false, not}
 use mathlib.Core.List.{List, ◌++◌}
+use Rattle.std.specs.Prelude.{Result}
 use mathlib.Core.Path.{◌≡◌, refl, sym, ◌∙◌, ap, subst}
 use native.Mathlib.Omega.{arith}
 use lib.Dec.{lit≤}
@@ -26,6 +27,7 @@ use Rattle.book.specs.declared.Reader.TheVariants as reader
 use Rattle.book.proofs.Entries.{bodies_fitted}
 use Rattle.reduction.specs.Stepping.{Keeps, HeldWithin, Steps, TellsOver}
 use Rattle.reduction.specs.declared.stepping.Stepped.{Stepped}
+use Rattle.reduction.specs.declared.stepping.Halt.{Halt}
 use Rattle.kept.proofs.Begun.{sets_begun, take_begun, drop_begun}
 use Rattle.evaluation.specs.Courses.{buffer, Holds, Advances}
 
@@ -106,7 +108,7 @@ noted_held ws {t} slice h r l e = rw (h, words_length t) (stored_held slice t r.
 
 -- A step of the state `x`, written into a slice `out` as long as the room for a state, which it leaves as `after`. The buffer
 -- `next` begins with that.
-advanced : (B : Book) {book slice : List ℕ} {count : ℕ} {x : Term} (out after next : List ℕ) (r : Stepped)
+advanced : (B : Book) {book slice : List ℕ} {count : ℕ} {x : Term} (out after next : List ℕ) (r : Result Stepped Halt)
     → length out ≡ 2 * longest
     → ((n : ℕ) → n ≤ longest → take (2 * n) next ≡ take (2 * n) after)
     → layout.Holds B book
@@ -131,7 +133,7 @@ advanced B {x} out after next r room begins held h = on (calculus.step (bodies B
     )
 
 -- What a step of the state in the one buffer leaves in both.
-abbrev pub Moves : List ℕ → Bool → List ℕ → List ℕ → ℕ → Stepped → List ℕ → List ℕ → Type 0
+abbrev pub Moves : List ℕ → Bool → List ℕ → List ℕ → ℕ → Result Stepped Halt → List ℕ → List ℕ → Type 0
 Moves book lent work other count r work' other' =
     ((B : Book) (x : Term)
     → layout.Holds B book
@@ -139,7 +141,7 @@ Moves book lent work other count r work' other' =
     → Advances (length B) (calculus.step (bodies B) x) r (buffer (not lent) work' other'))
     × ((buffer lent work' other' ≡ buffer lent work other) × (drop (2 * longest) work' ≡ drop (2 * longest) work))
 
-pub from_lent : {lent : Bool} (book work other : List ℕ) (count : ℕ) (r : Stepped) (after : List ℕ)
+pub from_lent : {lent : Bool} (book work other : List ℕ) (count : ℕ) (r : Result Stepped Halt) (after : List ℕ)
     → lent ≡ true
     → length other ≡ 2 * longest
     → TellsOver reader.Everybody book (take (2 * count) work) other r after
@@ -149,7 +151,7 @@ from_lent book work other count r after e room s =
     subst (λ b. Moves book b work other count r work after) (sym e)
     (λ B x held h. advanced B other after after r room (λ n l. refl) held h (s B x held (keeps B h)), (refl, refl))
 
-pub from_other : {lent : Bool} (book work other : List ℕ) (count : ℕ) (r : Stepped) (after : List ℕ)
+pub from_other : {lent : Bool} (book work other : List ℕ) (count : ℕ) (r : Result Stepped Halt) (after : List ℕ)
     → lent ≡ false
     → 2 * longest ≤ length work
     → length after ≡ length (take (2 * longest) work)

@@ -4,6 +4,7 @@
 use Prim.Native.Nat.{ℕ, suc, ◌+◌, ◌-◌, ◌<◌, ◌≤◌}
 use mathlib.Core.Bool.{Bool}
 use mathlib.Core.List.{List}
+use Rattle.std.specs.Prelude.{Result, Ok, Err}
 use mathlib.Core.Path.{◌≡◌, refl, sym, ◌∙◌, ap, subst}
 use native.Mathlib.Decide.{dec_le}
 use native.Mathlib.Nat.{zero-add, add-zero, sub-zero, add-suc, suc-add}
@@ -17,14 +18,13 @@ use Rattle.calculus.specs.Step as calculus
 use Rattle.calculus.specs.Run.{at_value, at_stuck, too_long, Ended, done, one_more, last_end, run_until, run_from}
 use Rattle.calculus.specs.Run as run
 use Rattle.calculus.proofs.Comparisons.{le_leb, gt_leb}
-use Rattle.reduction.specs.declared.stepping.Kind as code
 use Rattle.reduction.specs.declared.stepping.Stepped.{Stepped}
-use Rattle.reduction.specs.declared.stepping.Stepped.TheVariants as stepped
+use Rattle.reduction.specs.declared.stepping.Halt.{Halt}
 use Rattle.reduction.specs.Stepping.{kind_of}
 use Rattle.evaluation.specs.declared.End.{End}
-use Rattle.evaluation.specs.declared.End.TheVariants as end
 use Rattle.evaluation.specs.declared.Steps.{Steps}
 use Rattle.evaluation.specs.Courses.{Holds, Advances, Goes}
+use Rattle.evaluation.specs.Ends.{end_of_halt}
 use Rattle.evaluation.specs.Outcomes.{counts_of, end_of}
 
 -- The next state and the run, over a book.
@@ -78,14 +78,12 @@ reaches_first B {grant} {t} h =
 
 -- What the answer of a step from `x` says of the run from there with one step more than `g` granted, and of the buffer into which
 -- the next state is written.
-Turned : Book → ℕ → Term → List ℕ → Stepped → Type 0
-Turned B g x next stepped.Value = from B (suc g) x ≡ done at_value x
-Turned B g x next stepped.Stuck = from B (suc g) x ≡ done at_stuck x
-Turned B g x next stepped.Full = from B (suc g) x ≡ done too_long x
-Turned B g x next (stepped.To K n) =
-    (y : Term) × (from B (suc g) x ≡ one_more (kind_of K) (from B g y)) × Holds (length B) next n y
+Turned : Book → ℕ → Term → List ℕ → Result Stepped Halt → Type 0
+Turned B g x next (Err h) = from B (suc g) x ≡ done (end_of (end_of_halt h)) x
+Turned B g x next (Ok s) =
+    (y : Term) × (from B (suc g) x ≡ one_more (kind_of s.kind) (from B g y)) × Holds (length B) next s.length y
 
-turned : (B : Book) (g : ℕ) (x : Term) (next : List ℕ) (r : Stepped) → Advances (length B) (next_of B x) r next → Turned B g x next r
+turned : (B : Book) (g : ℕ) (x : Term) (next : List ℕ) (r : Result Stepped Halt) → Advances (length B) (next_of B x) r next → Turned B g x next r
 unfolding Advances Turned run_until run.advance
 turned B g x next r a = on (next_of B x) refl a
   where
@@ -102,21 +100,6 @@ turned B g x next r a = on (next_of B x) refl a
         by_size (no l) =
             subst (Turned B g x next) (sym (full (omega arith)))
             (ap (run.advance (from B g) x) e ∙ rw (gt_leb (size y) longest (omega arith)) refl)
-
--- The answers that end a run, and the ends.
-pub data Stops : Stepped → End → Type 0 where
-  stops_value : Stops stepped.Value end.Value
-  stops_stuck : Stops stepped.Stuck end.Stuck
-  stops_long : Stops stepped.Full end.Long
-
-stopped : (B : Book) (g : ℕ) (x : Term) (next : List ℕ) {r : Stepped} {E : End}
-    → Stops r E
-    → Turned B g x next r
-    → from B (suc g) x ≡ done (end_of E) x
-unfolding Turned
-stopped B g x next stops_value h = h
-stopped B g x next stops_stuck h = h
-stopped B g x next stops_long h = h
 
 module _ {B : Book} {grant : ℕ} {taken : Steps} {t : Term} {slice : List ℕ} {count : ℕ} (h : Reaches B grant taken t slice count) where
   -- A run that ends at the present state.
@@ -145,27 +128,27 @@ module _ {B : Book} {grant : ℕ} {taken : Steps} {t : Term} {slice : List ℕ} 
   goes_last {E} n e = ends E 0 (omega arith) (ap (λ E. done E h.state) (sym e)) refl
 
   -- A turn.
-  module _ (l : taken.total < grant) (r : Stepped) (next : List ℕ) (a : Advances (length B) (next_of B h.state) r next) where
-    turn : {s : Stepped} → r ≡ s → Turned B (grant - (taken.total + 1)) h.state next s
+  module _ (l : taken.total < grant) (r : Result Stepped Halt) (next : List ℕ) (a : Advances (length B) (next_of B h.state) r next) where
+    turn : {s : Result Stepped Halt} → r ≡ s → Turned B (grant - (taken.total + 1)) h.state next s
     turn e =
         subst (Turned B (grant - (taken.total + 1)) h.state next) e (turned B (grant - (taken.total + 1)) h.state next r a)
 
-    pub goes_stop : {lent : Bool} {last : List ℕ} {s : Stepped} {E : End}
-        → Stops s E
-        → r ≡ s
+    pub goes_stop : {lent : Bool} {last : List ℕ} {halt : Halt}
+        → r ≡ Err halt
         → last ≡ slice
-        → Goes (length B) (from B grant t) (record { end = E; steps = taken; length = count; lent = lent }) last
-    goes_stop {E} o e same =
+        → Goes (length B) (from B grant t) (record { end = end_of_halt halt; steps = taken; length = count; lent = lent }) last
+    unfolding Turned
+    goes_stop {halt = halt} e same =
         let g = grant - (taken.total + 1) in
-        ends E (suc g) (omega arith) (stopped B g h.state next o (turn e)) same
+        ends (end_of_halt halt) (suc g) (omega arith) (turn e) same
 
-    pub reaches_next : {K : code.Kind} {n : ℕ} (more : Steps)
-        → r ≡ stepped.To K n
+    pub reaches_next : {s : Stepped} (more : Steps)
+        → r ≡ Ok s
         → more.total ≡ taken.total + 1
-        → counts_of more ≡ counting (kind_of K) (counts_of taken)
-        → Reaches B grant more t next n
+        → counts_of more ≡ counting (kind_of s.kind) (counts_of taken)
+        → Reaches B grant more t next s.length
     unfolding Turned one_more
-    reaches_next {K} more e many each =
+    reaches_next {s} more e many each =
         let (y, p, k) = turn e in
         let rest = from B (grant - (taken.total + 1)) y in
         let n : grant - taken.total ≡ suc (grant - (taken.total + 1)) = omega arith in
@@ -177,5 +160,5 @@ module _ {B : Book} {grant : ℕ} {taken : Steps} {t : Term} {slice : List ℕ} 
               h.course
               ∙ ap (λ g. later taken (from B g h.state)) n
               ∙ ap (later taken) p
-              ∙ rw (m, both_counting (kind_of K) (counts_of taken) rest.counts, ← each, ← many) refl;
+              ∙ rw (m, both_counting (kind_of s.kind) (counts_of taken) rest.counts, ← each, ← many) refl;
         }

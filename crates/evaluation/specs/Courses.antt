@@ -1,5 +1,5 @@
 -- What the inner functions of a run answer and leave in the slices.
-use Rattle.std.specs.Prelude.{ℕ, ◌*◌, ◌≤◌, ◌<◌, Bool, true, false, List, ◌≡◌, take, drop}
+use Rattle.std.specs.Prelude.{ℕ, ◌*◌, ◌≤◌, ◌<◌, Bool, true, false, List, ◌≡◌, take, drop, Result, Ok, Err}
 use Rattle.calculus.specs.Term.{Term, size}
 use Rattle.calculus.specs.Words.{words, Scoped, Named, longest}
 use Rattle.calculus.specs.Kinds.{total}
@@ -10,7 +10,8 @@ use Rattle.calculus.specs.Outcomes as outcomes
 use Rattle.term.specs.Kept.{kept}
 use Rattle.reduction.specs.declared.stepping.Kind.{Kind}
 use Rattle.reduction.specs.declared.stepping.Stepped.{Stepped}
-use Rattle.reduction.specs.declared.stepping.Stepped.TheVariants as stepped
+use Rattle.reduction.specs.declared.stepping.Halt.{Halt}
+use Rattle.reduction.specs.declared.stepping.Halt.TheVariants as halt
 use Rattle.reduction.specs.Stepping.{kind_of}
 use Rattle.evaluation.specs.declared.Steps.{Steps}
 use Rattle.evaluation.specs.declared.Course.{Course}
@@ -30,14 +31,14 @@ pub record Holds (N : ℕ) (slice : List ℕ) (count : ℕ) (x : Term) : Type 0 
   pub named : Named N x
 
 -- One step of a state: the next state is kept at the front of the buffer `next`, where there is one and it fits.
-unfoldable pub Advances : ℕ → calculus.Next → Stepped → List ℕ → Type 0
-Advances N calculus.value r next = r ≡ stepped.Value
-Advances N calculus.stuck r next = r ≡ stepped.Stuck
+unfoldable pub Advances : ℕ → calculus.Next → Result Stepped Halt → List ℕ → Type 0
+Advances N calculus.value r next = r ≡ Err halt.Value
+Advances N calculus.stuck r next = r ≡ Err halt.Stuck
 Advances N (calculus.next k y) r next =
     (K : Kind)
     × (kind_of K ≡ k)
-    × (size y ≤ longest → (r ≡ stepped.To K (size y)) × Holds N next (size y) y)
-    × (longest < size y → r ≡ stepped.Full)
+    × (size y ≤ longest → (r ≡ Ok (record { kind = K; length = size y })) × Holds N next (size y) y)
+    × (longest < size y → r ≡ Err halt.Full)
 
 -- The counts by kind are the steps in all.
 abbrev pub AddUp : Steps → Type 0

@@ -16,18 +16,19 @@ ghost use Rattle.term.specs.Reasons.{reason_of};
 ghost use Rattle.book.specs.Layout as layout;
 ghost use Rattle.reduction.specs.Stepping.{Held, Keeps, kind_of};
 ghost use Rattle.evaluation.specs.Courses.{AddUp, Advances, Goes, Holds, Performs, buffer, ended};
+ghost use Rattle.evaluation.specs.Ends.{end_of_halt};
 ghost use Rattle.evaluation.specs.Outcomes.{answer_of, counts_of, end_of, ran_of};
 
 use book::Reader;
 use kept::clearing::clear;
 use kept::keeping::{note, spell};
-use reduction::stepping::{Kind, Redex, Stepped, find_redex, step};
-use term::reading::{Reading, read};
+use reduction::stepping::{Halt, Kind, Rest, Stepped, find_redex, step};
+use term::reading::read;
 use term::refusal::{Reason, Refusal};
 
 // An allowance of steps for each of the eight callers.
 #[repr(C)]
-#[derive(Clone, Copy)]
+#[derive(Clone, Copy, Debug, PartialEq, Eq)]
 pub struct Desk {
     pub allowances: [u32; 8],
 }
@@ -46,12 +47,7 @@ impl Desk {
     pub fn allowance_of(self, caller: u32) -> u32
         ensures { result ≡ allowance_of self.allowances caller }
     {
-        let at = caller as usize;
-        let allowances = self.allowances;
-        if at < 8 {
-            return allowances[at];
-        }
-        0
+        self.allowances.get(caller as usize).copied().unwrap_or(0)
     }
 
     // The desk with the steps of a caller taken from its allowance, and the other seven as they were.
@@ -66,7 +62,7 @@ impl Desk {
 }
 
 // The ends of a run, in the order of document 01's numbers.
-#[derive(Drop)]
+#[derive(Clone, Copy, Debug, PartialEq, Eq)]
 pub enum End {
     Value,
     Spent,
@@ -74,8 +70,21 @@ pub enum End {
     Long,
 }
 
+// The end of a run in a state from which no step was taken.
+impl From<Halt> for End {
+    ghost from_gives = { λ halt end. end ≡ end_of_halt halt };
+
+    fn from(halt: Halt) -> End {
+        match halt {
+            Halt::Value => End::Value,
+            Halt::Stuck => End::Stuck,
+            Halt::Full => End::Long,
+        }
+    }
+}
+
 // The steps that a run took, in all and by kind.
-#[derive(Clone, Copy)]
+#[derive(Clone, Copy, Debug, PartialEq, Eq)]
 pub struct Steps {
     pub total: u32,
     pub substitutions: u32,
@@ -83,21 +92,22 @@ pub struct Steps {
     pub cancellations: u32,
 }
 
-#[derive(Drop)]
-pub enum Ran {
-    Ended(End, Steps),
-    Refused(Refusal),
+// How a run ended, and after which steps.
+#[derive(Clone, Copy, Debug, PartialEq, Eq)]
+pub struct Ended {
+    pub end: End,
+    pub steps: Steps,
 }
 
 // What a run answers, with the desk after it.
-#[derive(Drop)]
+#[derive(Clone, Copy, Debug, PartialEq, Eq)]
 pub struct Outcome {
-    pub answer: Ran,
+    pub answer: Result<Ended, Refusal>,
     pub desk: Desk,
 }
 
 // How a run went: its end, its steps, the length of the state that it came to, and whether that is kept in the lent buffer.
-#[derive(Drop)]
+#[derive(Clone, Copy, Debug, PartialEq, Eq)]
 pub struct Course {
     pub end: End,
     pub steps: Steps,
@@ -113,15 +123,9 @@ fn counted(mut steps: Steps, kind: Kind) -> Steps
 {
     steps.total += 1;
     match kind {
-        Kind::Substitution => {
-            steps.substitutions += 1;
-        }
-        Kind::Unfolding => {
-            steps.unfoldings += 1;
-        }
-        Kind::Cancellation => {
-            steps.cancellations += 1;
-        }
+        Kind::Substitution => steps.substitutions += 1,
+        Kind::Unfolding => steps.unfoldings += 1,
+        Kind::Cancellation => steps.cancellations += 1,
     }
     steps
 }
@@ -131,15 +135,20 @@ fn current<'a>(lent: bool, work: &'a [u16], other: &'a [u16], count: usize) -> &
     requires { 2 * count ≤ length (buffer lent work.now other.now) }
     ensures { result.now ≡ take (2 * count) (buffer lent work.now other.now) }
 {
-    if lent {
-        return &work[..2 * count];
-    }
-    &other[..2 * count]
+    let buffer = if lent { work } else { other };
+    &buffer[..2 * count]
 }
 
 // Takes one step of the state, from the buffer that has it into the front of the other one: what is read and what is written cannot
-// lie in one slice. Where the next state does not fit, the state is where it was.
-fn advance(lent: bool, work: &mut [u16], other: &mut [u16], count: usize, book: &[u16]) -> Stepped
+// lie in one slice. Where the next state does not fit, the state is where it was. A flag says which buffer has it: two references that
+// change places could be told apart only by name.
+fn advance(
+    lent: bool,
+    work: &mut [u16],
+    other: &mut [u16],
+    count: usize,
+    book: &[u16],
+) -> Result<Stepped, Halt>
     requires { (2 * longest ≤ length work.old) × (length other.old ≡ 2 * longest) × ((B : Book) × (x : Term) × layout.Holds B book.now × Holds (length B) (buffer lent work.old other.old) count x) }
     ensures advances { (B : Book) (x : Term) → layout.Holds B book.now → Holds (length B) (buffer lent work.old other.old) count x → Advances (length B) (calculus.step (bodies B) x) result (buffer (not lent) work.new other.new) }
     ensures other_unchanged { (buffer lent work.new other.new ≡ buffer lent work.old other.old) × (drop (2 * longest) work.new ≡ drop (2 * longest) work.old) }
@@ -162,9 +171,9 @@ fn last_end(state: &[u16], book: &[u16]) -> End
     ensures { (B : Book) (x : Term) → layout.Holds B book.now → Keeps B x state.now → end_of result ≡ last_end (calculus.step (bodies B) x) }
 {
     match find_redex(state, book, Reader::Everybody) {
-        Redex::Value => End::Value,
-        Redex::Stuck => End::Stuck,
-        Redex::Beta(_) | Redex::Cancel(_) | Redex::Unfold(_) | Redex::Name(_) => End::Spent,
+        Ok(_) => End::Spent,
+        Err(Rest::Value) => End::Value,
+        Err(Rest::Stuck) => End::Stuck,
     }
 }
 
@@ -183,36 +192,21 @@ fn go(size: usize, grant: u32, work: &mut [u16], other: &mut [u16], book: &[u16]
         unfoldings: 0,
         cancellations: 0,
     };
+    // Not a `for`: the edit steps_never_taken needs the count that the loop tests.
     while steps.total < grant {
         match advance(lent, work, other, count, book) {
-            Stepped::Value => {
+            Err(halt) => {
                 return Course {
-                    end: End::Value,
+                    end: End::from(halt),
                     steps,
                     length: count,
                     lent,
                 };
             }
-            Stepped::Stuck => {
-                return Course {
-                    end: End::Stuck,
-                    steps,
-                    length: count,
-                    lent,
-                };
-            }
-            Stepped::Full => {
-                return Course {
-                    end: End::Long,
-                    steps,
-                    length: count,
-                    lent,
-                };
-            }
-            Stepped::To(kind, next) => {
-                count = next;
+            Ok(stepped) => {
+                count = stepped.length;
                 lent = !lent;
-                steps = counted(steps, kind);
+                steps = counted(steps, stepped.kind);
             }
         }
     }
@@ -243,21 +237,22 @@ fn settle(course: Course, work: &mut [u16], caller: u32, desk: Desk) -> Outcome
     requires caller_le_last_caller { (caller ≤ last_caller) × (course.steps.total ≤ allowance_of desk.allowances caller) }
     ensures { (state : List ℕ) → ran_of result work.new state ≡ ended (end_of course.end) course.steps caller desk.allowances work.old state }
 {
-    let end = course.end;
-    let steps = course.steps;
     clear(work, 16);
     Outcome {
-        answer: Ran::Ended(end, steps),
-        desk: desk.lowered(caller, steps.total),
+        answer: Ok(Ended {
+            end: course.end,
+            steps: course.steps,
+        }),
+        desk: desk.lowered(caller, course.steps.total),
     }
 }
 
-// A refusal leaves the desk as it was.
-fn refused(reason: Reason, place: usize, desk: Desk) -> Outcome
-    ensures { (answer_of result.answer ≡ refused (reason_of reason) place) × (result.desk ≡ desk) }
+// A refusal leaves the desk as it was. Those before reading tell no place.
+fn refused(reason: Reason, desk: Desk) -> Outcome
+    ensures { (answer_of result.answer ≡ refused (reason_of reason) 0) × (result.desk ≡ desk) }
 {
     Outcome {
-        answer: Ran::Refused(Refusal { reason, place }),
+        answer: Err(Refusal { reason, place: 0 }),
         desk,
     }
 }
@@ -275,24 +270,21 @@ pub fn run(
     ensures safety { SafeRun [] [] term.now budget caller desk.allowances work.old state.old (ran_of result work.new state.new) }
 {
     if 7 < caller {
-        return refused(Reason::CallerNotAllowed, 0, desk);
+        return refused(Reason::CallerNotAllowed, desk);
     }
     if work.len() < 8192 {
-        return refused(Reason::WorkShort, 0, desk);
+        return refused(Reason::WorkShort, desk);
     }
     if state.len() < 1024 {
-        return refused(Reason::OutputShort, 0, desk);
+        return refused(Reason::OutputShort, desk);
     }
-    if let Reading::Refused(refusal) = read(term) {
-        let reason = refusal.reason;
-        return refused(reason, refusal.place, desk);
+    if let Err(refusal) = read(term) {
+        return Outcome {
+            answer: Err(refusal),
+            desk,
+        };
     }
-    let allowance = desk.allowance_of(caller);
-    let grant = if budget < allowance {
-        budget
-    } else {
-        allowance
-    };
+    let grant = budget.min(desk.allowance_of(caller));
     let course = perform(term, grant, work, state, &term[..0]);
     settle(course, work, caller, desk)
 }

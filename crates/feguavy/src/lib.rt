@@ -9,10 +9,10 @@ ghost use Rattle.calculus.specs.Safety.{SafeRun};
 ghost use Rattle.evaluation.specs.Outcomes.{end_of};
 ghost use Rattle.feguavy.specs.Numbers.{NumberedCheck, NumberedRun, found_numbers};
 
-use evaluation::{Desk, End, Ran, run};
+use evaluation::{Desk, End, run};
 use term::find;
 use term::refusal::Reason;
-use typing::{Checked, check};
+use typing::check;
 
 // The answer of a check: 0 and the length of the type, or the number of the refusal and its place.
 #[repr(C)]
@@ -46,7 +46,7 @@ pub struct FoundNumbers {
     pub length: usize,
 }
 
-// The number of a reason.
+// The number of a reason. A match, as the numbers are C's, and the edit caller_answered_as_the_limit gives two reasons one of them.
 #[tactic(auto, unfolding(calculus::specs::Answer::number))]
 fn number(reason: Reason) -> u32
     ensures { result ≡ number_of reason }
@@ -72,7 +72,7 @@ fn number(reason: Reason) -> u32
     }
 }
 
-// Document 01's number of an end.
+// Document 01's number of an end. A match, as the numbers are C's, and the edit wrong_number_for_an_end gives two ends one of them.
 #[tactic(auto, unfolding(calculus::specs::Run::end_number))]
 fn number_of_end(end: End) -> u32
     ensures { result ≡ end_number (end_of end) }
@@ -94,19 +94,16 @@ pub fn feguavy_check(
     ensures { NumberedCheck (calculus.check term.now limit work.old output.old) result work.new output.new }
 {
     match check(term, limit, work, output) {
-        Checked::Typed(length) => CheckedNumbers {
+        Ok(length) => CheckedNumbers {
             answer: 0,
             place: 0,
             length: length as u32,
         },
-        Checked::Refused(refusal) => {
-            let reason = refusal.reason;
-            CheckedNumbers {
-                answer: number(reason),
-                place: refusal.place as u32,
-                length: 0,
-            }
-        }
+        Err(refusal) => CheckedNumbers {
+            answer: number(refusal.reason),
+            place: refusal.place as u32,
+            length: 0,
+        },
     }
 }
 
@@ -122,32 +119,27 @@ pub fn feguavy_run(
     ensures safety { (c : calculus.Ran) × NumberedRun c result work.new state.new × SafeRun [] [] term.now budget caller desk.allowances work.old state.old c }
 {
     let outcome = run(term, budget, work, state, caller, desk);
-    let left = outcome.desk;
-    let answer = outcome.answer;
-    match answer {
-        Ran::Ended(end, steps) => RanNumbers {
+    match outcome.answer {
+        Ok(ended) => RanNumbers {
             answer: 0,
             place: 0,
-            end: number_of_end(end),
-            steps: steps.total,
-            substitutions: steps.substitutions,
-            unfoldings: steps.unfoldings,
-            cancellations: steps.cancellations,
-            desk: left,
+            end: number_of_end(ended.end),
+            steps: ended.steps.total,
+            substitutions: ended.steps.substitutions,
+            unfoldings: ended.steps.unfoldings,
+            cancellations: ended.steps.cancellations,
+            desk: outcome.desk,
         },
-        Ran::Refused(refusal) => {
-            let reason = refusal.reason;
-            RanNumbers {
-                answer: number(reason),
-                place: refusal.place as u32,
-                end: 0,
-                steps: 0,
-                substitutions: 0,
-                unfoldings: 0,
-                cancellations: 0,
-                desk: left,
-            }
-        }
+        Err(refusal) => RanNumbers {
+            answer: number(refusal.reason),
+            place: refusal.place as u32,
+            end: 0,
+            steps: 0,
+            substitutions: 0,
+            unfoldings: 0,
+            cancellations: 0,
+            desk: outcome.desk,
+        },
     }
 }
 

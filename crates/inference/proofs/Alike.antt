@@ -1,52 +1,45 @@
--- Two lists are the same over one word more if they are the same so far and at the next word; they are not the same over one word
--- more if the next words differ. Over all their words that decides whether they are the same; lists of different lengths are not.
-use Prim.Native.Nat.{ℕ, ◌+◌, ◌≤◌, ◌<◌}
-use mathlib.Core.Bool.{Bool, true, false, true≢false}
-use mathlib.Core.List.{List, [], ◌∷◌, ◌++◌}
-use mathlib.Core.Logic.{◌↔◌}
-use mathlib.Core.Path.{◌≡◌, sym, ap, ◌∙◌}
-use native.Mathlib.Numerals.{add-one}
+-- A fold that compares two lists of one length, place by place, is true in the end exactly where they are the same.
+use Prim.Native.Nat.{ℕ}
+use mathlib.Core.Bool.{Bool, true, true≢false}
+use mathlib.Core.List.{List, [], ◌∷◌}
+use mathlib.Core.Path.{◌≡◌, refl, sym, ap, ap₂, ◌∙◌, subst}
 use native.Mathlib.Omega.{arith}
-use lib.ListN.{length, get_or, take}
-use lib.Seq.{take-suc, take-take, take_all, get_or-take}
+use Rattle.std.specs.Prelude.{length, ◌↔◌, map}
+use Rattle.std.specs.List.{zip, FoldsTo}
 
--- The answer says whether the first `i` words of both are the same.
-abbrev pub Tells : List ℕ → List ℕ → ℕ → Bool → Type 0
-Tells x y i answer = (answer ≡ true) ↔ (take i x ≡ take i y)
+-- A turn keeps what it has exactly where the two words are the same.
+module _ {F A : Type 0} (turn : F × Bool → A → F × Bool → Type 0) (v : A → ℕ × ℕ) (f : F)
+    (acts : (a : Bool) (x : A) (q : F × Bool) → turn (f, a) x q → (q.0 ≡ f) × ((q.1 ≡ true) ↔ ((a ≡ true) × ((v x).0 ≡ (v x).1)))) where
+  compared_on : (xs : List A) (a r : Bool) (last : F) (l m : List ℕ)
+      → FoldsTo turn (f, a) xs (last, r)
+      → map v xs ≡ zip l m
+      → length l ≡ length m
+      → (r ≡ true) ↔ ((a ≡ true) × (l ≡ m))
+  compared_on [] a r last [] [] t e n = let same : a ≡ r = ap (λ p. p.1) t in (λ h. (same ∙ h, refl), λ h. sym same ∙ h.0)
+  compared_on [] a r last (x ∷ l) (y ∷ m) t e n = absurd (true≢false (cc e))
+  compared_on [] a r last [] (y ∷ m) t e n = absurd (omega (arith, n))
+  compared_on [] a r last (x ∷ l) [] t e n = absurd (omega (arith, n))
+  compared_on (z ∷ xs) a r last [] [] t e n = absurd (true≢false (cc e))
+  compared_on (z ∷ xs) a r last [] (y ∷ m) t e n = absurd (omega (arith, n))
+  compared_on (z ∷ xs) a r last (x ∷ l) [] t e n = absurd (omega (arith, n))
+  compared_on (z ∷ xs) a r last (x ∷ l) (y ∷ m) (j, s, t) e n =
+      let head : v z ≡ (x, y) = cc e in
+      let tail : map v xs ≡ zip l m = cc e in
+      let step = acts a z j s in
+      let rest = compared_on xs j.1 r last l m (subst (λ g. FoldsTo turn (g, j.1) xs (last, r)) step.0 t) tail (omega (arith, n)) in (
+        λ h.
+            let p = rest.0 h in
+            let q = step.1.0 p.0 in
+            (q.0, ap₂ ◌∷◌ (sym (ap (λ p. p.0) head) ∙ q.1 ∙ ap (λ p. p.1) head) p.1),
+        λ h.
+            let first : x ≡ y = cc (h.1) in
+            let others : l ≡ m = cc (h.1) in
+            rest.1 (step.1.1 (h.0, ap (λ p. p.0) head ∙ first ∙ sym (ap (λ p. p.1) head)), others),
+      )
 
-module _ (x y : List ℕ) where
-  module _ (i : ℕ) where
-    same_before : take (i + 1) x ≡ take (i + 1) y → take i x ≡ take i y
-    same_before h = sym (take-take i (i + 1) x (omega arith)) ∙ ap (take i) h ∙ take-take i (i + 1) y (omega arith)
-
-    same_at : take (i + 1) x ≡ take (i + 1) y → get_or x i 0 ≡ get_or y i 0
-    same_at h = sym (word x) ∙ ap (λ l. get_or l i 0) h ∙ word y
-      where
-        word : (l : List ℕ) → get_or (take (i + 1) l) i 0 ≡ get_or l i 0
-        word l = get_or-take (i + 1) l i 0 (omega arith)
-
-    pub tells_more : {answer : Bool}
-        → i < length x
-        → i < length y
-        → get_or x i 0 ≡ get_or y i 0
-        → Tells x y i answer
-        → Tells x y (i + 1) answer
-    tells_more first second e t = (
-      λ h. more x first ∙ rw (t.0 h, e) (sym (more y second)),
-      λ h. t.1 (same_before h),
-    )
-      where
-        more : (l : List ℕ) → i < length l → take (i + 1) l ≡ take i l ++ (get_or l i 0 ∷ [])
-        more l h = rw (add-one i) (take-suc l i 0 h)
-
-    pub tells_differing : (get_or x i 0 ≡ get_or y i 0 → ⊥) → Tells x y (i + 1) false
-    tells_differing n = (λ h. absurd (true≢false cc), λ h. absurd (n (same_at h)))
-
-    pub tells_all : {answer : Bool} → length x ≤ i → length y ≤ i → Tells x y i answer → (answer ≡ true) ↔ (x ≡ y)
-    tells_all first second t = (
-      λ h. sym (take_all i x first) ∙ t.0 h ∙ take_all i y second,
-      λ h. t.1 (ap (take i) h),
-    )
-
-  pub tells_longer : (length y ≡ length x → ⊥) → (◌≡◌ {A = Bool} false true) ↔ (x ≡ y)
-  tells_longer n = (λ h. absurd (true≢false (sym h)), λ h. absurd (n (sym (ap length h))))
+  pub alike_all : (xs : List A) (r : Bool) (last : F) (l m : List ℕ)
+      → FoldsTo turn (f, true) xs (last, r)
+      → map v xs ≡ zip l m
+      → length l ≡ length m
+      → (r ≡ true) ↔ (l ≡ m)
+  alike_all xs r last l m t e n = let h = compared_on xs true r last l m t e n in (λ x. (h.0 x).1, λ x. h.1 (refl, x))

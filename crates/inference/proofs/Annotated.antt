@@ -16,7 +16,7 @@ use Rattle.term.proofs.Walking.{span_emit}
 use Rattle.term.proofs.Finding.{from_on}
 use Rattle.kept.specs.Rewriting.{Fits}
 use Rattle.inference.specs.Inference.{Annotation, Raises}
-use Rattle.inference.specs.declared.Inferred.TheVariants as inferred
+use Rattle.std.specs.Prelude.{Ok}
 use Rattle.inference.proofs.KeptTypes.{written, raised_there}
 use Rattle.inference.proofs.Subjects.{behind, begun_words}
 
@@ -45,13 +45,13 @@ module _ {a : Term} {index : ℕ} {term : List ℕ} {from : ℕ} (A : Annotation
     -- Then it was raised there.
     pub raises : (place : ℕ) {part : List ℕ}
         → part ≡ kept (raise (index + 1) 0 a)
-        → Raises a index place limit work top (inferred.Typed 1 n)
+        → Raises a index place limit work top (Ok (record { read = 1; length = n }))
         (take (2 * top) noted ++ (part ++ drop (2 * (top + n) - 2 * top) (drop (2 * top) noted)))
     raises place y =
         let m = 2 * (top + n) - 2 * top in
         let many : m ≡ 2 * size a = omega arith in
         let raised = rw (add-one index) at y in
         record {
-          fits = λ h. (ap (inferred.Typed 1) same, raised_there work top (suc index) m a (omega arith) many x raised);
+          fits = λ h. (ap (λ k. Ok (record { read = 1; length = k })) same, raised_there work top (suc index) m a (omega arith) many x raised);
           over = λ h. absurd (omega arith);
         }

@@ -4,13 +4,16 @@ use Prim.Native.Nat.{ℕ, ◌*◌, ◌≤◌, ◌<◌}
 use mathlib.Core.Bool.{true≢false}
 use mathlib.Core.List.{List}
 use mathlib.Core.Logic.{◌≢◌}
-use mathlib.Core.Path.{◌≡◌, refl}
+use mathlib.Core.Path.{◌≡◌, refl, ap, ◌∙◌}
 use native.Mathlib.Decide.{ℕ_discrete}
 use lib.Seq.{sets}
+use Rattle.std.specs.Prelude.{Result, Ok, Err}
 use Rattle.calculus.specs.Term.{Term, Term-discrete, size, substitute}
+use Rattle.calculus.specs.Answer.{Answer, refused, wrong_argument, over_limit}
 use Rattle.term.specs.Kept.{kept}
-use Rattle.inference.specs.declared.moving.Applied.{Applied}
-use Rattle.inference.specs.declared.moving.Applied.TheVariants as applied
+use Rattle.term.specs.Reasons.{reason_of}
+use Rattle.term.specs.declared.refusal.Reason.{Reason}
+use Rattle.term.specs.declared.refusal.Reason.TheVariants.{WrongArgument, OverLimit}
 use Rattle.inference.specs.Moving.{Applies}
 use Rattle.inference.proofs.Putting.{within_or_over}
 
@@ -22,11 +25,11 @@ pub record Instance (a b u σ : Term) (work : List ℕ) (top limit n : ℕ) (aft
   pub stored : after ≡ sets work (2 * top) (kept (substitute 0 u b))
 
 -- What each answer says.
-module _ {a b u σ : Term} {work : List ℕ} {top limit : ℕ} {r : Applied} {after : List ℕ} (A : Applies a b u σ work top limit r after) where
+module _ {a b u σ : Term} {work : List ℕ} {top limit : ℕ} {r : Result ℕ Reason} {after : List ℕ} (A : Applies a b u σ work top limit r after) where
   by_cases : {R : Type 0}
-      → (σ ≢ a → r ≡ applied.WrongArgument → R)
-      → (σ ≡ a → limit < size (substitute 0 u b) → r ≡ applied.Full → R)
-      → (Instance a b u σ work top limit (size (substitute 0 u b)) after → r ≡ applied.To (size (substitute 0 u b)) → R)
+      → (σ ≢ a → r ≡ Err WrongArgument → R)
+      → (σ ≡ a → limit < size (substitute 0 u b) → r ≡ Err OverLimit → R)
+      → (Instance a b u σ work top limit (size (substitute 0 u b)) after → r ≡ Ok (size (substitute 0 u b)) → R)
       → R
   by_cases {R} wrong over right = on (Term-discrete ℕ_discrete σ a)
     where
@@ -37,14 +40,18 @@ module _ {a b u σ : Term} {work : List ℕ} {top limit : ℕ} {r : Applied} {af
           (λ f. right (record { alike = h; fits = f; long = refl; stored = (A.fits h f).1 }) (A.fits h f).0)
           (λ o. over h o (A.full h o))
 
-  pub says_wrong : r ≡ applied.WrongArgument → σ ≢ a
-  says_wrong q =
-      by_cases (λ n _. n) (λ h o p. absurd (true≢false (cc (p, q)))) (λ i p. absurd (true≢false (cc (p, q))))
+  -- The application is refused by the same reason, at its own place.
+  pub says_refused : {x : Answer Term} {q : Reason} (p : ℕ)
+      → (σ ≢ a → x ≡ refused wrong_argument p)
+      → (σ ≡ a → limit < size (substitute 0 u b) → x ≡ refused over_limit p)
+      → r ≡ Err q
+      → x ≡ refused (reason_of q) p
+  says_refused {q} p wrong over e =
+      by_cases (λ n h. let same : WrongArgument ≡ q = cc (h, e) in wrong n ∙ ap (λ s. refused (reason_of s) p) same)
+      (λ k o h. let same : OverLimit ≡ q = cc (h, e) in over k o ∙ ap (λ s. refused (reason_of s) p) same)
+      (λ i h. absurd (true≢false (cc (h, e))))
 
-  pub says_over : r ≡ applied.Full → (σ ≡ a) × (limit < size (substitute 0 u b))
-  says_over q = by_cases (λ n p. absurd (true≢false (cc (p, q)))) (λ h o _. (h, o)) (λ i p. absurd (true≢false (cc (p, q))))
-
-  pub says_typed : {n : ℕ} → r ≡ applied.To n → Instance a b u σ work top limit n after
+  pub says_typed : {n : ℕ} → r ≡ Ok n → Instance a b u σ work top limit n after
   says_typed q =
       by_cases (λ n p. absurd (true≢false (cc (p, q)))) (λ h o p. absurd (true≢false (cc (p, q))))
       (λ i p. record { alike = i.alike; fits = i.fits; long = cc (p, q); stored = i.stored })

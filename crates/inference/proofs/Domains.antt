@@ -11,8 +11,9 @@ use Rattle.calculus.proofs.Coding.{size_positive}
 use Rattle.term.specs.Kept.{kept, Lies}
 use Rattle.term.proofs.Nodes.{two_pi, size_two}
 use Rattle.term.proofs.Keeping.{lies_first, lies_second, lies_taken, lies_within}
-use Rattle.inference.specs.declared.moving.Applied.{Applied}
-use Rattle.inference.specs.declared.moving.Applied.TheVariants as applied
+use Rattle.std.specs.Prelude.{Result, Err}
+use Rattle.term.specs.declared.refusal.Reason.{Reason}
+use Rattle.term.specs.declared.refusal.Reason.TheVariants.{WrongArgument}
 use Rattle.inference.specs.Moving.{Applies, Codomain, Product, Puts}
 use Rattle.inference.proofs.KeptTypes.{cut_lies, cut_size}
 
@@ -65,10 +66,10 @@ product_codomain work top count inside P measured =
     }
 
 module _ {a b u σ : Term} {work : List ℕ} {top limit : ℕ} where
-  pub applies_wrong : σ ≢ a → Applies a b u σ work top limit applied.WrongArgument work
+  pub applies_wrong : σ ≢ a → Applies a b u σ work top limit (Err WrongArgument) work
   applies_wrong n = record { wrong = λ _. (refl, refl); fits = λ h. absurd (n h); full = λ h. absurd (n h) }
 
-  pub applies_right : {r : Applied} {after : List ℕ}
+  pub applies_right : {r : Result ℕ Reason} {after : List ℕ}
       → σ ≡ a
       → Puts b u work top limit r after
       → Applies a b u σ work top limit r after

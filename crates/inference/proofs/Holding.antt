@@ -14,16 +14,16 @@ use Rattle.calculus.proofs.Coding.{words_length, worded}
 use Rattle.calculus.proofs.Scoping.{scoped_more}
 use Rattle.term.specs.Kept.{kept, Lies}
 use Rattle.term.proofs.Keeping.{kept_length, lies_taken, lies_one}
-use Rattle.kept.specs.declared.copying.Room.{Room}
+use Rattle.std.specs.Prelude.{Option}
 use Rattle.kept.specs.Writing.{Writes}
 use Rattle.kept.specs.Rewriting.{Argument, Subject}
-use Rattle.inference.specs.Moving.{CodesWithin, Coded, Codomain, HeldPair, held_room, HeldWithin}
+use Rattle.inference.specs.Moving.{CodesWithin, Coded, Codomain, HeldPair, HeldWithin}
 use Rattle.inference.proofs.KeptTypes.{cut_lies, cut_size, written, lies_still}
 use Rattle.book.specs.Layout.{Holds, decode}
 use Rattle.reduction.specs.Stepping as over
 
 -- A kept term copied to the front.
-pub copied : {e out after : List ℕ} {r : Room} (t : Term)
+pub copied : {e out after : List ℕ} {r : Option ℕ} (t : Term)
     → Writes e out 0 r after
     → e ≡ kept t
     → 2 * size t ≤ length out
@@ -69,10 +69,10 @@ held_over {book = book} h H =
     }
 
 -- So many nodes of the working slice, copied to the front, are cut out again.
-pub copied_cut : (work held : List ℕ) (from count : ℕ) {after : List ℕ} {r : Room}
+pub copied_cut : (work held : List ℕ) (from count : ℕ) {after : List ℕ} {r : Option ℕ}
     → 2 * (from + count) ≤ length work
     → count ≤ longest
-    → length held ≡ held_room
+    → length held ≡ 4096
     → Writes (take (2 * (from + count) - 2 * from) (drop (2 * from) work)) held 0 r after
     → (t : Term)
     → take (2 * count) (drop (2 * from) work) ≡ kept t
@@ -84,14 +84,14 @@ copied_cut work held from count inside few room w t x =
     front_cut held t count (copied t w own (omega arith)) (omega arith) long
 
 -- A codomain is copied to the front, and then the argument is noted.
-module _ {work held copy : List ℕ} {from to : ℕ} {r : Room} (room : length held ≡ held_room) (C : Codomain work from to)
+module _ {work held copy : List ℕ} {from to : ℕ} {r : Option ℕ} (room : length held ≡ 4096) (C : Codomain work from to)
     (w : Writes (take (2 * to - 2 * from) (drop (2 * from) work)) held 0 r copy) where
   front : (b : Term) → take (2 * size b) (drop (2 * from) work) ≡ kept b → to ≡ from + size b → copy ≡ sets held 0 (kept b)
   front b x long =
       let many : 2 * to - 2 * from ≡ 2 * size b = omega arith in
       copied b w (ap (λ k. take k (drop (2 * from) work)) many ∙ x) (omega (arith, C.extent, C.short))
 
-  pub copy_long : length copy ≡ held_room
+  pub copy_long : length copy ≡ 4096
   copy_long = ap length (front C.term C.coded C.extent) ∙ length-sets held 0 (kept C.term) ∙ room
 
   module _ {argument noted : List ℕ} {closed : Bool} (A : Coded argument closed)

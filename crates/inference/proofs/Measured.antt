@@ -8,13 +8,12 @@ use lib.ListN.{length}
 use Rattle.calculus.specs.Term.{Term}
 use Rattle.calculus.specs.Words.{levels}
 use Rattle.calculus.specs.Rules.{Context}
-use Rattle.inference.specs.Moving.{held_room}
 use Rattle.inference.specs.Inference.{Subject, Roomy}
 use Rattle.inference.proofs.Subjects.{behind, behind_length, subject_some}
 use Rattle.inference.proofs.Rooms.{roomy_part}
 
 pub part_asked : {book : List ℕ} {Γ Δ : Context} {e d : Term} {term sub places places' work work' : List ℕ}
-    {depth depth' top top' limit t held : ℕ} (n more : ℕ)
+    {depth depth' top top' limit t : ℕ} (n more : ℕ)
     → more ≤ 2
     → 3 * length sub ≡ t
     → Subject book Γ e term sub places depth
@@ -23,9 +22,7 @@ pub part_asked : {book : List ℕ} {Γ Δ : Context} {e d : Term} {term sub plac
     → levels d < levels e
     → length work' ≡ length work
     → top' ≤ top + limit
-    → held ≡ held_room
     → (3 * length (behind (1 + n) sub) + more < t)
-    × ((held ≡ held_room)
-    × ((Θ : Context) × (a : Term) × Subject book Θ a term (behind (1 + n) sub) places' depth' × Roomy a work' top' limit))
-part_asked {sub = sub} n more few words S R D deep long fits room =
-    (omega (arith, behind_length (1 + n) sub, subject_some S), (room, (_, _, D, roomy_part R deep long fits)))
+    × ((Θ : Context) × (a : Term) × Subject book Θ a term (behind (1 + n) sub) places' depth' × Roomy a work' top' limit)
+part_asked {sub = sub} n more few words S R D deep long fits =
+    (omega (arith, behind_length (1 + n) sub, subject_some S), (_, _, D, roomy_part R deep long fits))

@@ -1,23 +1,23 @@
 -- What a step within the limit says of the calculus. There is no next state, or one that is within the limit, or one over it, and
--- each has its own answer: so where the code found no step there is none, where it did not fit the next state is over the limit,
--- and otherwise the next state lies where it was to be written.
+-- each has its own answer: so where the code refuses, inference refuses by the same reason, and otherwise the next state lies where it
+-- was to be written.
 use Prim.Native.Nat.{ℕ, ◌*◌, ◌≤◌, ◌<◌}
 use mathlib.Core.Bool.{true≢false}
 use mathlib.Core.List.{List}
-use mathlib.Core.Logic.{◌⊎◌, ⊎_elim}
-use mathlib.Core.Path.{◌≡◌, refl, sym, ap, ◌∙◌}
+use mathlib.Core.Path.{◌≡◌, refl, ap, ◌∙◌}
 use native.Mathlib.Omega.{arith}
 use lib.ListN.{take}
 use lib.Seq.{sets}
+use Rattle.std.specs.Prelude.{Result, Ok, Err}
 use Rattle.calculus.specs.Term.{Term, size}
-use Rattle.calculus.specs.Answer.{refused, no_step}
+use Rattle.calculus.specs.Answer.{Answer, refused, ◌>>=◌, over_limit}
 use Rattle.calculus.specs.Kinds.{Kind}
 use Rattle.calculus.specs.Step.{Next, value, stuck, next}
 use Rattle.calculus.specs.Infer.{stepped}
 use Rattle.term.specs.Kept.{kept}
-use Rattle.reduction.specs.declared.stepping.Kind as code
-use Rattle.reduction.specs.declared.stepping.Stepped.{Stepped}
-use Rattle.reduction.specs.declared.stepping.Stepped.TheVariants.{Value, Stuck, To, Full}
+use Rattle.term.specs.Reasons.{reason_of}
+use Rattle.term.specs.declared.refusal.Reason.{Reason}
+use Rattle.term.specs.declared.refusal.Reason.TheVariants.{NoStep, OverLimit}
 use Rattle.kept.proofs.Stores.{take_sets}
 use Rattle.inference.specs.Moving.{Moves}
 use Rattle.inference.proofs.Putting.{within_or_over}
@@ -38,39 +38,26 @@ pub moved_front : {n : Next} {work : List ℕ} {at limit k : ℕ} {after : List 
 moved_front {work} {at} top m h =
     ap (take (2 * top)) m.stored ∙ take_sets (2 * top) work (2 * at) (kept m.state) (omega arith)
 
-module _ (work : List ℕ) (top limit : ℕ) (r : Stepped) (after : List ℕ) where
-  -- The next state is within the limit or over it, and the answer goes by that.
-  by_limit : {A : Type 0} (k : Kind) (x : Term)
-      → Moves (next k x) work top limit r after
-      → ((K : code.Kind) → size x ≤ limit → r ≡ To K (size x) → after ≡ sets work (2 * top) (kept x) → A)
-      → (limit < size x → r ≡ Full → A)
-      → A
+module _ (work : List ℕ) (top limit : ℕ) {r : Result ℕ Reason} (after : List ℕ) where
+  pub moved : (n : Next) {k : ℕ} → Moves n work top limit r after → r ≡ Ok k → Moved n work top limit k after
   unfolding Moves
-  by_limit k x m within over = within_or_over x limit (λ h. within m.0 h (m.2 h).0 (m.2 h).1) (λ h. over h (m.3 h))
+  moved value m q = absurd (true≢false (cc (m, q)))
+  moved stuck m q = absurd (true≢false (cc (m, q)))
+  moved (next j x) m q =
+      within_or_over x limit
+      (λ h. record { kind = j; state = x; steps = refl; fits = h; long = let s = (m.0 h).0 in cc (q, s); stored = (m.0 h).1 })
+      (λ h. let s = m.1 h in absurd (true≢false (cc (q, s))))
 
-  pub moved : (n : Next) {K : code.Kind} {k : ℕ} → Moves n work top limit r after → r ≡ To K k → Moved n work top limit k after
-  unfolding Moves
-  moved value m q = absurd (true≢false cc)
-  moved stuck m q = absurd (true≢false cc)
-  moved (next k x) m q =
-      by_limit k x m (λ K h t s. record { kind = k; state = x; steps = refl; fits = h; long = cc (q, t); stored = s })
-      (λ h f. absurd (true≢false cc))
-
-  pub over_limit : (n : Next) → Moves n work top limit r after → r ≡ Full → (k : Kind) × (x : Term) × (n ≡ next k x) × (limit < size x)
-  unfolding Moves
-  over_limit value m q = absurd (true≢false cc)
-  over_limit stuck m q = absurd (true≢false cc)
-  over_limit (next k x) m q =
-      by_limit k x m (λ K h t s. absurd (true≢false cc)) (λ h f. (k, x, refl, h))
-
-  pub rests : (p : ℕ) (n : Next)
+  -- Inference goes on with a next state by `k`, which measures it first.
+  pub unmoved : {q : Reason} (p : ℕ) (n : Next) (k : Term → Answer Term)
       → Moves n work top limit r after
-      → (r ≡ Value) ⊎ (r ≡ Stuck)
-      → stepped p n ≡ refused no_step p
-  unfolding stepped
-  rests p value m k = refl
-  rests p stuck m k = refl
-  rests p (next j x) m k = by_limit j x m (λ K h q s. absurd (moves_on q (λ v. absurd cc, λ v. absurd cc))) (λ h q. absurd (moves_on q (λ v. absurd cc, λ v. absurd cc)))
-    where
-      moves_on : {s : Stepped} → r ≡ s → (s ≡ Value → ⊥) × (s ≡ Stuck → ⊥) → ⊥
-      moves_on q n = ⊎_elim (λ v. n.0 (sym q ∙ v)) (λ v. n.1 (sym q ∙ v)) k
+      → r ≡ Err q
+      → ((x : Term) → limit < size x → k x ≡ refused over_limit p)
+      → (stepped p n >>= k) ≡ refused (reason_of q) p
+  unfolding Moves stepped ◌>>=◌
+  unmoved {q} p value k m e over = let same : NoStep ≡ q = cc (m, e) in ap (λ s. refused (reason_of s) p) same
+  unmoved {q} p stuck k m e over = let same : NoStep ≡ q = cc (m, e) in ap (λ s. refused (reason_of s) p) same
+  unmoved {q} p (next j x) k m e over =
+      within_or_over x limit
+      (λ h. let s = (m.0 h).0 in absurd (true≢false (cc (e, s))))
+      (λ h. let s = m.1 h in let same : OverLimit ≡ q = cc (s, e) in over x h ∙ ap (λ s. refused (reason_of s) p) same)

@@ -14,7 +14,9 @@ use Rattle.calculus.proofs.Testing.{fitting, over}
 use Rattle.book.specs.declared.Reader.{Reader}
 use Rattle.book.specs.Layout.{Defines, decode}
 use Rattle.book.proofs.Entries.{entry_of, types_entry}
-use Rattle.inference.specs.declared.Inferred.{Inferred}
+use Rattle.std.specs.Prelude.{Result}
+use Rattle.inference.specs.declared.Typed.{Typed}
+use Rattle.term.specs.declared.refusal.Refusal.{Refusal}
 use Rattle.inference.specs.Inference.{judge, Subject, Stores, Infers, refuses}
 use Rattle.inference.proofs.Passing.{found}
 use Rattle.inference.proofs.Putting.{within_or_over}
@@ -26,7 +28,7 @@ module _ {book : List ℕ} {Γ : Context} {i : ℕ} {term sub places : List ℕ}
   name_defined = let (d, e) = entry_of (decode book) i S.named in (d, S.holds.each i d e)
 
   -- It is the type, if it fits.
-  pub infers_stored : (who : Reader) {L p : ℕ} {work : List ℕ} {top : ℕ} {r : Inferred} {after : List ℕ}
+  pub infers_stored : (who : Reader) {L p : ℕ} {work : List ℕ} {top : ℕ} {r : Result Typed Refusal} {after : List ℕ}
       → 2 * (top + L) ≤ length work
       → ((d : Definition) → Defines d i book → Stores d.type p L work top r after)
       → Infers (judge who book L Γ p (name i)) (name i) places depth work top r after places

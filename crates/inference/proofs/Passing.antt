@@ -4,7 +4,7 @@
 use Prim.Native.Nat.{ℕ, ◌*◌}
 use mathlib.Core.Bool.{Bool, true, false, true≢false}
 use mathlib.Core.List.{List}
-use mathlib.Core.Path.{◌≡◌, refl, ap, subst}
+use mathlib.Core.Path.{◌≡◌, refl, sym, ap, subst, ◌∙◌}
 use native.Mathlib.Decide.{ℕ_discrete}
 use lib.ListN.{length, take, drop}
 use Rattle.calculus.specs.Term.{Term, Term-discrete, star, size}
@@ -16,8 +16,10 @@ use Rattle.term.specs.Kept.{kept}
 use Rattle.term.specs.Reasons.{reason_of}
 use Rattle.term.specs.declared.refusal.Reason.{Reason}
 use Rattle.term.specs.declared.refusal.Refusal.{Refusal}
-use Rattle.inference.specs.declared.Inferred.{Inferred}
-use Rattle.inference.specs.declared.Inferred.TheVariants as inferred
+use Rattle.std.specs.Prelude.{Result, Ok, Err}
+use Rattle.std.specs.Result.{MatchResult, IsErrAnd}
+use Rattle.std.proofs.lemmas.Result.{err_from_is_err_and}
+use Rattle.inference.specs.declared.Typed.{Typed}
 use Rattle.inference.specs.Inference.{judge, Infers, finds, refuses, TypeFound, inferred_of, star_typed}
 use Rattle.book.specs.declared.Reader.{Reader}
 
@@ -39,24 +41,24 @@ pub lying : {x : Answer Term} {e τ : Term} {places : List ℕ} {depth : ℕ} {w
     → take (2 * size τ) (drop (2 * top) after) ≡ kept τ
 lying {top} {after} part x = subst (λ t. take (2 * size t) (drop (2 * top) after) ≡ kept t) x (rw (← part.long) part.lies)
 
-module _ {e : Term} {places : List ℕ} {depth : ℕ} {work : List ℕ} {top : ℕ} {r : Inferred} {after places' : List ℕ} where
-  pub typed : {x : Answer Term} {n m : ℕ}
+module _ {e : Term} {places : List ℕ} {depth : ℕ} {work : List ℕ} {top : ℕ} {r : Result Typed Refusal} {after places' : List ℕ} where
+  pub typed_as : {x : Answer Term} {t : Typed}
       → Infers x e places depth work top r after places'
-      → r ≡ inferred.Typed n m
-      → Part x e places depth work top n m after places'
-  typed {m} (finds {τ} f) q =
-      let l : m ≡ size τ = cc (f.answer, q) in
+      → r ≡ Ok t
+      → Part x e places depth work top t.read t.length after places'
+  typed_as {t} (finds {τ} f) q =
+      let same : record { read = size e; length = size τ } ≡ t = cc (f.answer, q) in
       record {
         type = τ;
         found = refl;
-        read = cc (f.answer, q);
-        long = l;
-        lies = rw l f.lies;
+        read = sym (ap (λ t. t.read) same);
+        long = sym (ap (λ t. t.length) same);
+        lies = rw (← same) f.lies;
         front = f.front;
         context = f.context;
         wide = f.wide;
       }
-  typed (refuses f) q = let g = rw q at f in absurd (true≢false cc)
+  typed_as (refuses f) q = let g = rw q at f in absurd (true≢false cc)
 
   -- The whole finds a type.
   pub found : {x : Answer Term} {τ : Term} → x ≡ ok τ → TypeFound τ (size e) places depth work top r after places'
@@ -66,19 +68,59 @@ module _ {e : Term} {places : List ℕ} {depth : ℕ} {work : List ℕ} {top : �
   -- The code's refusal is the whole's answer.
   pub turned : {x : Answer Term} {reason : Reason} {place : ℕ}
       → x ≡ refused (reason_of reason) place
-      → r ≡ inferred.Refused (record { reason = reason; place = place })
+      → r ≡ Err (record { reason = reason; place = place })
       → Infers x e places depth work top r after places'
   turned g q = rw g (refuses (ap inferred_of q))
 
-  -- A part's refusal is the whole's answer.
-  pub passed : {x y : Answer Term} {e₁ : Term} {places₁ : List ℕ} {depth₁ : ℕ} {work₁ : List ℕ} {top₁ : ℕ} {after₁ places₁' : List ℕ} {f : Refusal} (k : Term → Answer Term)
-      → Infers y e₁ places₁ depth₁ work₁ top₁ r after₁ places₁'
-      → r ≡ inferred.Refused f
+  refused_as : {x y : Answer Term} {f g : Refusal} {e₁ : Term} {places₁ : List ℕ} {depth₁ : ℕ} {work₁ : List ℕ} {top₁ : ℕ} {r₁ : Result Typed Refusal} {after₁ places₁' : List ℕ}
+      (k : Term → Answer Term)
+      → Infers y e₁ places₁ depth₁ work₁ top₁ r₁ after₁ places₁'
+      → r₁ ≡ Err f
+      → r ≡ Err g
+      → g ≡ f
       → x ≡ (y >>= k)
       → Infers x e places depth work top r after places'
   unfolding ◌>>=◌
-  passed k (finds f) q g = absurd (true≢false (cc (f.answer, q)))
-  passed k (refuses f) q g = rw g (refuses f)
+  refused_as k (finds t) q a b g = absurd (true≢false (cc (t.answer, q)))
+  refused_as k (refuses t) q a b g = rw g (refuses (ap inferred_of (a ∙ ap Err b ∙ sym q) ∙ t))
+
+  -- A part's refusal, which the whole passes on, is the whole's answer.
+  pub passed : {x y : Answer Term} {f : Refusal} {e₁ : Term} {places₁ : List ℕ} {depth₁ : ℕ} {work₁ : List ℕ} {top₁ : ℕ} {after₁ places₁' : List ℕ}
+      (k : Term → Answer Term)
+      → Infers y e₁ places₁ depth₁ work₁ top₁ (Err f) after₁ places₁'
+      → IsErrAnd r (λ g. g ≡ f)
+      → x ≡ (y >>= k)
+      → Infers x e places depth work top r after places'
+  passed k I q g = let p = err_from_is_err_and r q in refused_as k I refl p.1 p.2 g
+
+  -- A refusal of the node's own, which is passed on.
+  pub placed : {x : Answer Term} {f : Refusal} {reason : Reason} {place : ℕ}
+      → x ≡ refused (reason_of reason) place
+      → IsErrAnd r (λ g. g ≡ f)
+      → f ≡ record { reason = reason; place = place }
+      → Infers x e places depth work top r after places'
+  placed g q h = let p = err_from_is_err_and r q in turned g (p.1 ∙ ap Err (p.2 ∙ h))
+
+pub typed : {x : Answer Term} {e : Term} {places : List ℕ} {depth : ℕ} {work : List ℕ} {top : ℕ} {t : Typed} {after places' : List ℕ}
+    → Infers x e places depth work top (Ok t) after places'
+    → Part x e places depth work top t.read t.length after places'
+typed I = typed_as I refl
+
+-- What a call answered, before its refusal got a place.
+module _ {A E F : Type 0} (r : Result A E) {m : Result A F} (Q : E → F → Type 0) (h : MatchResult r (λ x. m ≡ Ok x) (λ e. IsErrAnd m (Q e))) where
+  pub ok_before : {x : A} → m ≡ Ok x → r ≡ Ok x
+  ok_before {x} q = on r h
+    where
+      on : (r : Result A E) → MatchResult r (λ x. m ≡ Ok x) (λ e. IsErrAnd m (Q e)) → r ≡ Ok x
+      on (Ok y) h = let same : y ≡ x = cc (h, q) in ap Ok same
+      on (Err e) h = let p = err_from_is_err_and m h in let z = p.1 in absurd (true≢false (cc (z, q)))
+
+  pub err_before : {f : F} → m ≡ Err f → (e : E) × (r ≡ Err e) × Q e f
+  err_before {f} q = on r h
+    where
+      on : (r : Result A E) → MatchResult r (λ x. m ≡ Ok x) (λ e. IsErrAnd m (Q e)) → (e : E) × (r ≡ Err e) × Q e f
+      on (Ok y) h = absurd (true≢false (cc (h, q)))
+      on (Err e) h = let p = err_from_is_err_and m h in let z = p.1 in let same : p.0 ≡ f = cc (z, q) in (e, refl, subst (Q e) same p.2)
 
 -- A test that a type is star, and then `k`: the same test with star as its answer, and then `k`.
 pub star_first : (y : Answer Term) (p : ℕ) (k : Answer Term)

@@ -13,7 +13,7 @@ use Rattle.term.specs.Kept.{kept}
 use Rattle.term.proofs.Nodes.{two_pi, keep_two}
 use Rattle.term.proofs.Keeping.{keep_append, kept_length}
 use Rattle.kept.proofs.Stores.{take_sets}
-use Rattle.inference.specs.declared.Inferred.TheVariants as inferred
+use Rattle.std.specs.Prelude.{Ok}
 use Rattle.inference.specs.Inference.{TypeFound}
 use Rattle.inference.proofs.Stored.{sets_between}
 
@@ -43,7 +43,7 @@ pub product_written : {places places' work after : List ℕ} {depth top n m j k 
     → take (2 * top) before ≡ take (2 * top) work
     → take depth places' ≡ take depth places
     → length places' ≡ length places
-    → TypeFound (pi a b) k places depth work top (inferred.Typed j (1 + n + m)) after places'
+    → TypeFound (pi a b) k places depth work top (Ok (record { read = j; length = 1 + n + m })) after places'
 unfolding size
 product_written {work} {after} {top} {n} {m} before a b long reads first second all x room lies front context wide =
     let many = kept_length a in

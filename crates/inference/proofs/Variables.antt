@@ -13,7 +13,9 @@ use Rattle.calculus.specs.Infer.{FittedContext, infer, measure, annotation}
 use Rattle.calculus.proofs.Bridge.{raise_moves, raise_more}
 use Rattle.calculus.proofs.Testing.{fitting, over}
 use Rattle.calculus.proofs.Scoping.{scoped_more}
-use Rattle.inference.specs.declared.Inferred.{Inferred}
+use Rattle.std.specs.Prelude.{Result}
+use Rattle.inference.specs.declared.Typed.{Typed}
+use Rattle.term.specs.declared.refusal.Refusal.{Refusal}
 use Rattle.inference.specs.Inference.{judge, Subject, Placed, Annotation, Raises, Infers, refuses}
 use Rattle.inference.proofs.Passing.{found}
 use Rattle.inference.proofs.Putting.{within_or_over}
@@ -76,7 +78,7 @@ module _ {book : List ℕ} {Γ : Context} {i : ℕ} {term sub places : List ℕ}
       }
 
   -- The raised annotation is the type.
-  pub infers_annotation : (who : Reader) {L p : ℕ} {work : List ℕ} {top : ℕ} {r : Inferred} {after : List ℕ}
+  pub infers_annotation : (who : Reader) {L p : ℕ} {work : List ℕ} {top : ℕ} {r : Result Typed Refusal} {after : List ℕ}
       → 2 * (top + L) ≤ length work
       → Raises (standing Γ i) i p L work top r after
       → Infers (judge who book L Γ p (var i)) (var i) places depth work top r after places

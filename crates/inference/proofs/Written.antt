@@ -8,7 +8,7 @@ use lib.Seq.{sets}
 use Rattle.calculus.specs.Term.{Term, size}
 use Rattle.term.specs.Kept.{kept}
 use Rattle.kept.proofs.Stores.{take_sets}
-use Rattle.inference.specs.declared.Inferred.TheVariants as inferred
+use Rattle.std.specs.Prelude.{Ok}
 use Rattle.inference.specs.Inference.{TypeFound}
 use Rattle.inference.proofs.KeptTypes.{written}
 
@@ -20,7 +20,7 @@ pub written_type : {places places' work after : List ℕ} {depth top n m k : ℕ
     → take (2 * top) before ≡ take (2 * top) work
     → take depth places' ≡ take depth places
     → length places' ≡ length places
-    → TypeFound τ k places depth work top (inferred.Typed n m) after places'
+    → TypeFound τ k places depth work top (Ok (record { read = n; length = m })) after places'
 written_type {after} {top} before τ reads long x room front context wide =
     record {
       answer = cc;

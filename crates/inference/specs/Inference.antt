@@ -1,5 +1,5 @@
 -- What inference is asked of a subterm and what it answers, by the `infer` of the calculus.
-use Rattle.std.specs.Prelude.{ℕ, suc, ◌+◌, ◌-◌, ◌*◌, ◌≤◌, ◌<◌, List, [], ◌∷◌, ◌≡◌, length, take, drop, get_or}
+use Rattle.std.specs.Prelude.{ℕ, suc, ◌+◌, ◌-◌, ◌*◌, ◌≤◌, ◌<◌, List, [], ◌∷◌, ◌≡◌, length, take, drop, get_or, Result, Ok, Err}
 use Rattle.std.proofs.lemmas.List.Edits.{sets}
 use Rattle.calculus.specs.Term.{Term, star, size, raise}
 use Rattle.calculus.specs.Answer.{Answer, ok, refused, ◌>>=◌, ◌>>◌, require, Reason, not_star, over_limit}
@@ -9,11 +9,11 @@ use Rattle.calculus.specs.Rules.{Context}
 use Rattle.calculus.specs.Infer.{FittedContext, infer, same}
 use Rattle.term.specs.Kept.{kept}
 use Rattle.term.specs.Reasons.{reason_of}
+use Rattle.term.specs.declared.refusal.Refusal.{Refusal}
 use Rattle.book.specs.declared.Reader.{Reader}
 use Rattle.book.specs.Layout.{Holds, decode, entries}
 use Rattle.inference.specs.Moving.{next_of}
-use Rattle.inference.specs.declared.Inferred.{Inferred}
-use Rattle.inference.specs.declared.Inferred.TheVariants as inferred
+use Rattle.inference.specs.declared.Typed.{Typed}
 
 -- Inference over the book that a slice spells, as its reader sees it.
 abbrev pub judge : Reader → List ℕ → ℕ → Context → ℕ → Term → Answer Term
@@ -49,23 +49,23 @@ pub record Roomy (e : Term) (work : List ℕ) (top limit : ℕ) : Type 0 where
   pub allowed : limit ≤ longest
   pub room : 2 * (top + suc (levels e) * limit) ≤ length work
 
-abbrev pub inferred_of : Inferred → Answer ℕ
-inferred_of (inferred.Typed n m) = ok m
-inferred_of (inferred.Refused r) = refused (reason_of r.reason) r.place
+abbrev pub inferred_of : Result Typed Refusal → Answer ℕ
+inferred_of (Ok t) = ok t.length
+inferred_of (Err r) = refused (reason_of r.reason) r.place
 
 -- The type τ of a subterm of `n` words is kept at `top`; what lies before it, and the places of the context, are as they were.
-pub record TypeFound (τ : Term) (n : ℕ) (places : List ℕ) (depth : ℕ) (work : List ℕ) (top : ℕ) (r : Inferred) (after places' : List ℕ) : Type 0 where
-  pub answer : r ≡ inferred.Typed n (size τ)
+pub record TypeFound (τ : Term) (n : ℕ) (places : List ℕ) (depth : ℕ) (work : List ℕ) (top : ℕ) (r : Result Typed Refusal) (after places' : List ℕ) : Type 0 where
+  pub answer : r ≡ Ok (record { read = n; length = size τ })
   pub lies : take (2 * size τ) (drop (2 * top) after) ≡ kept τ
   pub front : take (2 * top) after ≡ take (2 * top) work
   pub context : take depth places' ≡ take depth places
   pub wide : length places' ≡ length places
 
 -- By the answer of the calculus: the type lies in the slice, or the refusal is the same.
-pub data Infers : Answer Term → Term → List ℕ → ℕ → List ℕ → ℕ → Inferred → List ℕ → List ℕ → Type 0 where
-  finds : {τ e : Term} {places : List ℕ} {depth : ℕ} {work : List ℕ} {top : ℕ} {r : Inferred} {after places' : List ℕ}
+pub data Infers : Answer Term → Term → List ℕ → ℕ → List ℕ → ℕ → Result Typed Refusal → List ℕ → List ℕ → Type 0 where
+  finds : {τ e : Term} {places : List ℕ} {depth : ℕ} {work : List ℕ} {top : ℕ} {r : Result Typed Refusal} {after places' : List ℕ}
       → TypeFound τ (size e) places depth work top r after places' → Infers (ok τ) e places depth work top r after places'
-  refuses : {s : Reason} {p : ℕ} {e : Term} {places : List ℕ} {depth : ℕ} {work : List ℕ} {top : ℕ} {r : Inferred} {after places' : List ℕ}
+  refuses : {s : Reason} {p : ℕ} {e : Term} {places : List ℕ} {depth : ℕ} {work : List ℕ} {top : ℕ} {r : Result Typed Refusal} {after places' : List ℕ}
       → inferred_of r ≡ refused s p → Infers (refused s p) e places depth work top r after places'
 
 -- The type of a part that has to be star, else 10.
@@ -86,11 +86,11 @@ Asks₂ c book term sub places depth work top limit =
 
 -- What it then tells: whatever node and context they stand for, the answer is that of `judge` at the node's place.
 abbrev pub Tells : (ℕ → Context → ℕ → Term → Answer Term) → (Term → Term) → List ℕ → List ℕ → List ℕ → List ℕ → ℕ → List ℕ → ℕ → ℕ
-    → Inferred → List ℕ → List ℕ → Type 0
+    → Result Typed Refusal → List ℕ → List ℕ → Type 0
 Tells judge c book term sub places depth work top limit r after places' = (Γ : Context) (e : Term) → Subject book Γ (c e) term sub places depth
     → Infers (judge limit Γ (length term - length sub) (c e)) (c e) places depth work top r after places'
 
-abbrev pub Tells₂ : (Term → Term → Term) → Reader → List ℕ → List ℕ → List ℕ → List ℕ → ℕ → List ℕ → ℕ → ℕ → Inferred → List ℕ → List ℕ → Type 0
+abbrev pub Tells₂ : (Term → Term → Term) → Reader → List ℕ → List ℕ → List ℕ → List ℕ → ℕ → List ℕ → ℕ → ℕ → Result Typed Refusal → List ℕ → List ℕ → Type 0
 Tells₂ c who book term sub places depth work top limit r after places' = (Γ : Context) (a e : Term) → Subject book Γ (c a e) term sub places depth
     → Infers (judge who book limit Γ (length term - length sub) (c a e)) (c a e) places depth work top r after places'
 
@@ -104,11 +104,11 @@ pub record Annotation (a : Term) (index : ℕ) (term : List ℕ) (from : ℕ) : 
   pub near : index < deepest
 
 -- The raised annotation is written at `top`, if it fits the limit.
-pub record Raises (a : Term) (index place limit : ℕ) (work : List ℕ) (top : ℕ) (r : Inferred) (after : List ℕ) : Type 0 where
-  pub fits : size a ≤ limit → (r ≡ inferred.Typed 1 (size a)) × (after ≡ sets work (2 * top) (kept (raise (suc index) 0 a)))
+pub record Raises (a : Term) (index place limit : ℕ) (work : List ℕ) (top : ℕ) (r : Result Typed Refusal) (after : List ℕ) : Type 0 where
+  pub fits : size a ≤ limit → (r ≡ Ok (record { read = 1; length = size a })) × (after ≡ sets work (2 * top) (kept (raise (suc index) 0 a)))
   pub over : limit < size a → inferred_of r ≡ refused over_limit place
 
 -- The stored type τ is written at `top`, if it fits the limit.
-pub record Stores (τ : Term) (place limit : ℕ) (work : List ℕ) (top : ℕ) (r : Inferred) (after : List ℕ) : Type 0 where
-  pub fits : size τ ≤ limit → (r ≡ inferred.Typed 1 (size τ)) × (after ≡ sets work (2 * top) (kept τ))
+pub record Stores (τ : Term) (place limit : ℕ) (work : List ℕ) (top : ℕ) (r : Result Typed Refusal) (after : List ℕ) : Type 0 where
+  pub fits : size τ ≤ limit → (r ≡ Ok (record { read = 1; length = size τ })) × (after ≡ sets work (2 * top) (kept τ))
   pub over : limit < size τ → inferred_of r ≡ refused over_limit place

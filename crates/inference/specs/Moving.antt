@@ -1,6 +1,6 @@
 -- What is written at a node of the working slice within the limit. Where it does not fit, nothing is said of the slice: the check
 -- then ends, and clears it.
-use Rattle.std.specs.Prelude.{ℕ, ◌+◌, ◌*◌, ◌≤◌, ◌<◌, Bool, true, List, ◌≢◌, ◌≡◌, length, take, drop}
+use Rattle.std.specs.Prelude.{ℕ, ◌+◌, ◌*◌, ◌≤◌, ◌<◌, Bool, true, List, ◌≢◌, ◌≡◌, length, take, drop, Result, Ok, Err}
 use Rattle.std.proofs.lemmas.List.Edits.{sets}
 use Rattle.calculus.specs.Term.{Term, pi, size, substitute}
 use Rattle.calculus.specs.Words.{words, Scoped, Named, longest, deepest}
@@ -8,20 +8,12 @@ use Rattle.calculus.specs.Step as calculus
 use Rattle.term.specs.Kept.{Lies, kept}
 use Rattle.book.specs.declared.Reader.{Reader}
 use Rattle.book.specs.Layout.{sight, decode, entries}
-use Rattle.reduction.specs.declared.stepping.Kind.{Kind}
-use Rattle.reduction.specs.declared.stepping.Stepped.{Stepped}
-use Rattle.reduction.specs.declared.stepping.Stepped.TheVariants as stepped
-use Rattle.reduction.specs.Stepping.{kind_of}
-use Rattle.inference.specs.declared.moving.Applied.{Applied}
-use Rattle.inference.specs.declared.moving.Applied.TheVariants as applied
+use Rattle.term.specs.declared.refusal.Reason.{Reason}
+use Rattle.term.specs.declared.refusal.Reason.TheVariants.{WrongArgument, NoStep, OverLimit}
 
 -- The step of a term over the book that a slice spells, as its reader sees it.
 unfoldable pub next_of : Reader → List ℕ → Term → calculus.Next
 next_of who book = calculus.step (sight who (decode book))
-
--- Room for two kept terms of 1,024 nodes.
-abbrev pub held_room : ℕ
-held_room = 4096
 
 -- The words are those of a term of at most 1,024 words, in a context of at most 64 annotations; of a closed term where `closed`.
 pub record Coded (ws : List ℕ) (closed : Bool) : Type 0 where
@@ -66,10 +58,10 @@ pub record Codomain (work : List ℕ) (from to : ℕ) : Type 0 where
   pub scoped : Scoped deepest term
 
 -- `u` put in for the outermost variable of `b` is written at `top`.
-pub record Puts (b u : Term) (work : List ℕ) (top limit : ℕ) (r : Applied) (after : List ℕ) : Type 0 where
+pub record Puts (b u : Term) (work : List ℕ) (top limit : ℕ) (r : Result ℕ Reason) (after : List ℕ) : Type 0 where
   pub fits : size (substitute 0 u b) ≤ limit
-      → (r ≡ applied.To (size (substitute 0 u b))) × (after ≡ sets work (2 * top) (kept (substitute 0 u b)))
-  pub full : limit < size (substitute 0 u b) → r ≡ applied.Full
+      → (r ≡ Ok (size (substitute 0 u b))) × (after ≡ sets work (2 * top) (kept (substitute 0 u b)))
+  pub full : limit < size (substitute 0 u b) → r ≡ Err OverLimit
 
 -- The slice is a product of at most 1,024 nodes, whose codomain stands in a context of at most 64 annotations.
 pub record Product (slice : List ℕ) : Type 0 where
@@ -81,27 +73,24 @@ pub record Product (slice : List ℕ) : Type 0 where
 
 -- The product of `a` and `b` is applied to `u`, which has the type σ: "its type equals the domain, else 12; the codomain with the
 -- argument put in", which is written at `top`.
-pub record Applies (a b u σ : Term) (work : List ℕ) (top limit : ℕ) (r : Applied) (after : List ℕ) : Type 0 where
-  pub wrong : σ ≢ a → (r ≡ applied.WrongArgument) × (after ≡ work)
+pub record Applies (a b u σ : Term) (work : List ℕ) (top limit : ℕ) (r : Result ℕ Reason) (after : List ℕ) : Type 0 where
+  pub wrong : σ ≢ a → (r ≡ Err WrongArgument) × (after ≡ work)
   pub fits : σ ≡ a
       → size (substitute 0 u b) ≤ limit
-      → (r ≡ applied.To (size (substitute 0 u b))) × (after ≡ sets work (2 * top) (kept (substitute 0 u b)))
-  pub full : σ ≡ a → limit < size (substitute 0 u b) → r ≡ applied.Full
+      → (r ≡ Ok (size (substitute 0 u b))) × (after ≡ sets work (2 * top) (kept (substitute 0 u b)))
+  pub full : σ ≡ a → limit < size (substitute 0 u b) → r ≡ Err OverLimit
 
--- The next state is written at `top`.
-unfoldable pub Moves : calculus.Next → List ℕ → ℕ → ℕ → Stepped → List ℕ → Type 0
-Moves calculus.value work top limit r after = r ≡ stepped.Value
-Moves calculus.stuck work top limit r after = r ≡ stepped.Stuck
+-- The next state is written at `top`, if there is one, else 13, and if it is within the limit, else 16.
+unfoldable pub Moves : calculus.Next → List ℕ → ℕ → ℕ → Result ℕ Reason → List ℕ → Type 0
+Moves calculus.value work top limit r after = r ≡ Err NoStep
+Moves calculus.stuck work top limit r after = r ≡ Err NoStep
 Moves (calculus.next k x) work top limit r after =
-    (K : Kind)
-    × (kind_of K ≡ k)
-    × (size x ≤ limit → (r ≡ stepped.To K (size x)) × (after ≡ sets work (2 * top) (kept x)))
-    × (limit < size x → r ≡ stepped.Full)
+    (size x ≤ limit → (r ≡ Ok (size x)) × (after ≡ sets work (2 * top) (kept x))) × (limit < size x → r ≡ Err OverLimit)
 
 -- "the annotation steps, else 13; the stepped annotation is measured".
-abbrev pub StepsInto : Reader → List ℕ → Term → List ℕ → ℕ → ℕ → Stepped → List ℕ → Type 0
+abbrev pub StepsInto : Reader → List ℕ → Term → List ℕ → ℕ → ℕ → Result ℕ Reason → List ℕ → Type 0
 StepsInto who book a = Moves (next_of who book a)
 
 -- "its type steps, else 13; the stepped type".
-abbrev pub StepsType : Reader → List ℕ → Term → List ℕ → ℕ → ℕ → Stepped → List ℕ → Type 0
+abbrev pub StepsType : Reader → List ℕ → Term → List ℕ → ℕ → ℕ → Result ℕ Reason → List ℕ → Type 0
 StepsType who book σ = Moves (next_of who book σ)

@@ -1,37 +1,32 @@
 // Types moved within the working slice: what is read and what is written cannot lie in one slice, so that a type is copied into `held`
-// first; and a part of the caller's own words is noted there, so that all that is moved is kept.
+// first; and a part of the caller's own words is noted there, so that all that is moved is kept. Each function asks that the slice has
+// room for a type within the limit at the node `top`: a struct of both would hold the caller's reference, and each contract would have to
+// say that it holds the same one afterwards.
 ghost use Rattle.std.specs.Prelude.{false, ◌≡◌, ◌+◌, ◌*◌, ◌≤◌, drop, length, take};
 ghost use Rattle.calculus.specs.Term.{Term, pi, size};
 ghost use Rattle.calculus.specs.Words.{Named, Worded, longest, words};
 ghost use Rattle.book.specs.Layout.{Holds, entries, decode};
 ghost use Rattle.term.specs.Kept.{Lies, kept};
-ghost use Rattle.inference.specs.Moving.{Applies, Coded, CodesWithin, Codomain, HeldPair, HeldWithin, Product, Puts, StepsInto, StepsType, held_room};
+ghost use Rattle.inference.specs.Moving.{Applies, Coded, CodesWithin, Codomain, HeldPair, HeldWithin, Product, Puts, StepsInto, StepsType};
 
+use crate::Check;
 use crate::comparing::same;
-use book::Reader;
 use kept::copying::copy;
 use kept::keeping::{length_at, note};
 use kept::rewriting::substitute;
-use reduction::stepping::{Stepped, step};
-
-// What an application of a product answers.
-#[derive(Drop)]
-pub(crate) enum Applied {
-    WrongArgument,
-    Full,
-    To(usize),
-}
+use reduction::stepping::{Halt, step};
+use term::refusal::Reason;
 
 // The codomain that `held` begins with, with the argument put in that is kept there from node 1,024 on and has `count` nodes, written
 // at `top` within the limit.
 fn put_held(
-    held: &[u16],
+    held: &[u16; 4096],
     count: usize,
     closed: bool,
     work: &mut [u16],
     top: usize,
     limit: usize,
-) -> Applied
+) -> Result<usize, Reason>
     requires { (2 * (top + limit) ≤ length work.old) × (limit ≤ longest) × HeldPair held.now count closed }
     ensures { (b u : Term) → Lies b held.now 0 → Worded b → Lies u held.now longest → Worded u → Puts b u work.old top limit result work.new }
 {
@@ -44,11 +39,9 @@ fn put_held(
         closed,
         &mut work[..2 * end],
         top,
-    );
-    if end < reached {
-        return Applied::Full;
-    }
-    Applied::To(reached - top)
+    )
+    .ok_or(Reason::OverLimit)?;
+    Ok(reached - top)
 }
 
 // The codomain, kept from the node `codomain` up to `next`, with the argument put in, written at `top` within the limit.
@@ -60,10 +53,9 @@ fn put_in(
     codomain: usize,
     next: usize,
     limit: usize,
-    held: &mut [u16],
-) -> Applied
-    requires held_len { length held.old ≡ held_room }
-    requires limit_in_bounds { (2 * (top + limit) ≤ length work.old) × (limit ≤ longest) × Codomain work.old codomain next × Coded argument.now closed }
+    held: &mut [u16; 4096],
+) -> Result<usize, Reason>
+    requires { (2 * (top + limit) ≤ length work.old) × (limit ≤ longest) × Codomain work.old codomain next × Coded argument.now closed }
     ensures { (b u : Term) → take (2 * size b) (drop (2 * codomain) work.old) ≡ kept b → Worded b → next ≡ codomain + size b → argument.now ≡ words u → Worded u → Puts b u work.old top limit result work.new }
 {
     copy(&work[2 * codomain..2 * next], held, 0);
@@ -81,10 +73,9 @@ pub(crate) fn apply(
     count: usize,
     own: usize,
     limit: usize,
-    held: &mut [u16],
-) -> Applied
-    requires held_len { length held.old ≡ held_room }
-    requires limit_in_bounds { (2 * (top + limit) ≤ length work.old) × (limit ≤ longest) × (2 * (top + count + own) ≤ length work.old) × Product (take (2 * count) (drop (2 * top) work.old)) × Coded argument.now closed }
+    held: &mut [u16; 4096],
+) -> Result<usize, Reason>
+    requires { (2 * (top + limit) ≤ length work.old) × (limit ≤ longest) × (2 * (top + count + own) ≤ length work.old) × Product (take (2 * count) (drop (2 * top) work.old)) × Coded argument.now closed }
     ensures { (a b u σ : Term) → take (2 * count) (drop (2 * top) work.old) ≡ kept (pi a b) → Worded (pi a b) → argument.now ≡ words u → Worded u → take (2 * own) (drop (2 * (top + count)) work.old) ≡ kept σ → Worded σ → Applies a b u σ work.old top limit result work.new }
 {
     let domain = top + 1;
@@ -92,64 +83,68 @@ pub(crate) fn apply(
     let next = top + count;
     let end = next + own;
     if !same(&work[2 * domain..2 * codomain], &work[2 * next..2 * end]) {
-        return Applied::WrongArgument;
+        return Err(Reason::WrongArgument);
     }
     put_in(argument, closed, work, top, codomain, next, limit, held)
 }
 
 // The next state of a kept one, written at `top` within the limit.
 fn step_held(
+    check: &Check,
     state: &[u16],
     closed: bool,
     work: &mut [u16],
     top: usize,
-    limit: usize,
-    book: &[u16],
-    reader: Reader,
-) -> Stepped
-    requires { (2 * (top + limit) ≤ length work.old) × (limit ≤ longest) × Holds (decode book.now) book.now × HeldWithin book.now state.now closed }
-    ensures { (b : Term) → state.now ≡ kept b → Worded b → Named (entries book.now) b → StepsType reader book.now b work.old top limit result work.new }
+) -> Result<usize, Reason>
+    requires { (2 * (top + check.now.limit) ≤ length work.old) × (check.now.limit ≤ longest) × Holds (decode check.now.book.now) check.now.book.now × HeldWithin check.now.book.now state.now closed }
+    ensures { (b : Term) → state.now ≡ kept b → Worded b → Named (entries check.now.book.now) b → StepsType check.now.reader check.now.book.now b work.old top check.now.limit result work.new }
 {
-    let end = top + limit;
-    step(state, closed, &mut work[2 * top..2 * end], book, reader)
+    let end = top + check.limit;
+    // Two arms with one answer, as a proof does not know which variant an arm of two has.
+    match step(
+        state,
+        closed,
+        &mut work[2 * top..2 * end],
+        check.book,
+        check.reader,
+    ) {
+        Ok(stepped) => Ok(stepped.length),
+        Err(Halt::Value) => Err(Reason::NoStep),
+        Err(Halt::Stuck) => Err(Reason::NoStep),
+        Err(Halt::Full) => Err(Reason::OverLimit),
+    }
 }
 
 // The next state of a part of the caller's own words, written at `top` within the limit.
 pub(crate) fn step_into(
+    check: &Check,
     state: &[u16],
     closed: bool,
     work: &mut [u16],
     top: usize,
-    limit: usize,
-    held: &mut [u16],
-    book: &[u16],
-    reader: Reader,
-) -> Stepped
-    requires held_len { length held.old ≡ held_room }
-    requires limit_in_bounds { (2 * (top + limit) ≤ length work.old) × (limit ≤ longest) × Holds (decode book.now) book.now × CodesWithin book.now state.now closed }
-    ensures { (b : Term) → state.now ≡ words b → Worded b → Named (entries book.now) b → StepsInto reader book.now b work.old top limit result work.new }
+    held: &mut [u16; 4096],
+) -> Result<usize, Reason>
+    requires { (2 * (top + check.now.limit) ≤ length work.old) × (check.now.limit ≤ longest) × Holds (decode check.now.book.now) check.now.book.now × CodesWithin check.now.book.now state.now closed }
+    ensures { (b : Term) → state.now ≡ words b → Worded b → Named (entries check.now.book.now) b → StepsInto check.now.reader check.now.book.now b work.old top check.now.limit result work.new }
 {
     note(state, held, 0);
-    let count = state.len();
-    step_held(&held[..2 * count], closed, work, top, limit, book, reader)
+    let nodes = state.len();
+    step_held(check, &held[..2 * nodes], closed, work, top)
 }
 
 // The type at `top`, `count` nodes long, moved by one step within the limit.
 pub(crate) fn step_type(
+    check: &Check,
     closed: bool,
     work: &mut [u16],
     top: usize,
     count: usize,
-    limit: usize,
-    held: &mut [u16],
-    book: &[u16],
-    reader: Reader,
-) -> Stepped
-    requires held_len { length held.old ≡ held_room }
-    requires limit_in_bounds { (2 * (top + limit) ≤ length work.old) × (limit ≤ longest) × (2 * (top + count) ≤ length work.old) × Holds (decode book.now) book.now × HeldWithin book.now (take (2 * count) (drop (2 * top) work.old)) closed }
-    ensures { (b : Term) → take (2 * count) (drop (2 * top) work.old) ≡ kept b → Worded b → Named (entries book.now) b → StepsType reader book.now b work.old top limit result work.new }
+    held: &mut [u16; 4096],
+) -> Result<usize, Reason>
+    requires { (2 * (top + check.now.limit) ≤ length work.old) × (check.now.limit ≤ longest) × (2 * (top + count) ≤ length work.old) × Holds (decode check.now.book.now) check.now.book.now × HeldWithin check.now.book.now (take (2 * count) (drop (2 * top) work.old)) closed }
+    ensures { (b : Term) → take (2 * count) (drop (2 * top) work.old) ≡ kept b → Worded b → Named (entries check.now.book.now) b → StepsType check.now.reader check.now.book.now b work.old top check.now.limit result work.new }
 {
     let end = top + count;
     copy(&work[2 * top..2 * end], held, 0);
-    step_held(&held[..2 * count], closed, work, top, limit, book, reader)
+    step_held(check, &held[..2 * count], closed, work, top)
 }

@@ -8,7 +8,7 @@ use native.Mathlib.Nat.{add-zero, add-sub_cancel_left, eq-or-lt_of_le}
 use native.Mathlib.Numerals.{add-one}
 use native.Mathlib.Omega.{arith}
 use lib.ListN.{length, take, drop, get_or, set, length-append, length-take, drop_of_length-le, get_or-append}
-use lib.Seq.{sets, sets-eq, set_comm, drop-nil, drop-cons, drop-length, length-take-le, get_or-append-add}
+use lib.Seq.{sets, sets-eq, drop-nil, drop-cons, drop-length, length-take-le, get_or-append-add}
 use Rattle.calculus.specs.Term.{Term, var, star, app, lam, pi, castup, castdown, mu, name, size}
 use Rattle.calculus.specs.Words.{emit, words}
 use Rattle.calculus.specs.Meaning.{meaning, binds}
@@ -17,6 +17,7 @@ use Rattle.term.specs.Walk.{span}
 use Rattle.term.specs.Word.{arity, shape_of}
 use Rattle.term.specs.declared.word.Shape.{Shape}
 use Rattle.term.proofs.Walking.{span_emit}
+use Rattle.kept.proofs.Stores.{set_sets}
 
 -- The kept words of any plain words.
 unfoldable pub noted_words : List ℕ → List ℕ
@@ -58,7 +59,7 @@ noted_at (w ∷ ws) (suc j) =
     let next : 2 * suc j + 1 ≡ suc (suc (2 * j + 1)) = omega arith in
     rw next (noted_at ws j)
 
--- A word of a run of stores, and a store before it.
+-- A word of a run of stores.
 get_d_sets : (l : List ℕ) (i : ℕ) (e : List ℕ) (j : ℕ)
     → i + length e ≤ length l
     → j < length e
@@ -69,11 +70,6 @@ get_d_sets l i e j room inside =
     ∙ get_or-append (take i l ++ e) (drop (i + length e) l) 0 (i + j) (omega (arith, length-append (take i l) e, front))
     ∙ ap (λ n. get_or (take i l ++ e) (n + j) 0) (sym front)
     ∙ get_or-append-add (take i l) e j 0
-
-set_before : (l : List ℕ) (i : ℕ) (e : List ℕ) (j a : ℕ) → j < i → set (sets l i e) j a ≡ sets (set l j a) i e
-set_before l i [] j a h = refl
-set_before l i (w ∷ e) j a h =
-    set_before (set l i w) (suc i) e j a (omega arith) ∙ ap (λ m. sets m (suc i) e) (set_comm l i j w a (omega arith))
 
 -- Before the first node is noted, and when all are.
 pub noted_none : (plain l : List ℕ) (at i : ℕ) → l ≡ sets l i (noted_words (drop (at + length plain - at) plain))
@@ -107,8 +103,8 @@ noted_before l plain at n extent inside h e =
     let second : 2 * n ≡ suc (suc i) = omega arith in
     let rest : suc (n - 1 - at) ≡ n - at = omega arith in
     ap (λ m. set (set m i w) (i + 1) extent) (h ∙ ap (λ k. sets l k ns) second)
-    ∙ ap (λ m. set m (i + 1) extent) (set_before l (suc (suc i)) ns i w (omega arith))
-    ∙ set_before (set l i w) (suc (suc i)) ns (i + 1) extent (omega arith)
+    ∙ ap (λ m. set m (i + 1) extent) (set_sets l i w (suc (suc i)) ns (omega arith))
+    ∙ set_sets (set l i w) (i + 1) extent (suc (suc i)) ns (omega arith)
     ∙ ap₂ (λ k x. sets (set (set l i w) k x) (suc (suc i)) ns) (add-one i) e
     ∙ ap (λ k. sets l i (noted_words k)) (sym (drop-cons plain (n - 1 - at) 0 (omega arith) ∙ ap (λ k. w ∷ drop k plain) rest))
 

@@ -71,20 +71,39 @@ module _ (d : ℕ) (u : Term) (i : ℕ) where
   substitute_outermost h none = substitute_here h ∙ ap (λ m. raise m 0 u) none ∙ raise_none u
 
 -- A leaf stays if its word is below those of the free variables, or from 2,048 on, where it is a name.
+pub leaf_stays : {e : Term} → View e → (d : ℕ) (u : Term) {slice : List ℕ} {n : ℕ}
+    → Lies e slice n
+    → Worded e
+    → size e ≡ 1
+    → (16 + d ≤ word_at slice n → 2048 ≤ word_at slice n)
+    → substitute d u e ≡ e
+unfolding substitute size Worded
+leaf_stays (a-var i) d u {slice} {n} l has one h =
+    let never : 16 + d ≤ word_at slice n → ⊥ = λ free. omega (arith, h free, has, lies_variable l) in
+    rw (lt-ltb i d (omega (arith, lies_variable l, never))) refl
+leaf_stays a_star d u l has one h = refl
+leaf_stays (a_name i) d u l has one h = refl
+leaf_stays (one_part e) d u l has one h = absurd (omega (arith, one, size_positive e))
+leaf_stays (two_parts two a b) d u l has one h = absurd (omega (arith, one, size_two two a b, size_positive a))
+
+pub kept_single : {e : Term} → View e → {slice : List ℕ} {n : ℕ}
+    → Lies e slice n
+    → size e ≡ 1
+    → kept e ≡ word_at slice n ∷ 1 ∷ []
+unfolding kept keep size
+kept_single (a-var i) l one = ap (λ w. w ∷ 1 ∷ []) (sym (lies_variable l))
+kept_single a_star l one = ap (λ w. w ∷ 1 ∷ []) (sym (lies_star l))
+kept_single (a_name i) l one = ap (λ w. w ∷ 1 ∷ []) (sym (lies_name l))
+kept_single (one_part e) l one = absurd (omega (arith, one, size_positive e))
+kept_single (two_parts two a b) l one = absurd (omega (arith, one, size_two two a b, size_positive a))
+
 pub kept_leaf : {e : Term} → View e → (d : ℕ) (u : Term) {slice : List ℕ} {n : ℕ}
     → Lies e slice n
     → Worded e
     → size e ≡ 1
     → (16 + d ≤ word_at slice n → 2048 ≤ word_at slice n)
     → kept (substitute d u e) ≡ word_at slice n ∷ 1 ∷ []
-unfolding kept keep substitute size Worded
-kept_leaf (a-var i) d u {slice} {n} l has one h =
-    let never : 16 + d ≤ word_at slice n → ⊥ = λ free. omega (arith, h free, has, lies_variable l) in
-    kept_below d u i (omega (arith, lies_variable l, never)) ∙ ap (λ w. w ∷ 1 ∷ []) (sym (lies_variable l))
-kept_leaf a_star d u l has one h = ap (λ w. w ∷ 1 ∷ []) (sym (lies_star l))
-kept_leaf (a_name i) d u l has one h = ap (λ w. w ∷ 1 ∷ []) (sym (lies_name l))
-kept_leaf (one_part e) d u l has one h = absurd (omega (arith, one, size_positive e))
-kept_leaf (two_parts two a b) d u l has one h = absurd (omega (arith, one, size_two two a b, size_positive a))
+kept_leaf v d u l has one h = ap kept (leaf_stays v d u l has one h) ∙ kept_single v l one
 
 -- The words of a subterm, as a part of the slice.
 pub part_taken : {e : Term} {slice : List ℕ} {n m : ℕ}

@@ -1,46 +1,51 @@
--- Clearing block by block. A list is clear exactly if each of its words is 0. Where all before a block is cleared, the block is
+-- Clearing block by block. Where all before a block is cleared, the block is
 -- now 0 and the rest is as it was, one block more is cleared: the zeros before the block and its own are one run of zeros.
-use Prim.Native.Nat.{ℕ, ◌+◌, ◌-◌, ◌≤◌, ◌<◌}
-use mathlib.Core.Bool.{Bool, true, false, true≢false}
-use mathlib.Core.List.{List, ◌++◌, append_assoc, append-nil}
+use Prim.Native.Nat.{ℕ, ◌+◌, ◌-◌, ◌≤◌}
+use mathlib.Core.Bool.{Bool, true, false, ◌&&◌}
+use mathlib.Core.List.{List, [], ◌∷◌, ◌++◌, append_assoc}
 use mathlib.Core.Logic.{◌↔◌}
 use mathlib.Core.Path.{◌≡◌, refl, sym, ◌∙◌, ap, ap₂}
 use native.Mathlib.Omega.{arith}
-use lib.ListN.{length, get_or, take, drop, replicate, length-replicate, get_or-replicate, replicate-append-replicate}
-use lib.Seq.{ext_get_or, drop-length, length-take-le, length_front, take_at, drop_at}
-use borrow.Rule.Slice.PartMut.{mid_of, post_of, put_mid, mid_len, Post-is, put_same}
-use borrow.Author.Count.{below_none, below_more}
+use borrow.Author.Tests.{eqb-true, eq-eqb}
+use lib.Dec.{eqb}
+use lib.ListN.{length, take, drop, replicate, length-replicate, replicate-append-replicate}
+use lib.Seq.{length-take-le, length_front, take_at, drop_at}
+use borrow.Rule.Slice.PartMut.{mid_of, post_of, put_mid, mid_len, Post-is}
 use Rattle.calculus.specs.Outcomes.{begun, cleared}
 
--- The first `i` words are 0.
-abbrev pub Zeros : List ℕ → ℕ → Type 0
-Zeros ws i = (k : ℕ) → k < i → get_or ws k 0 ≡ 0
+-- Each word is 0.
+abbrev pub IsClear : List ℕ → Type 0
+IsClear ws = ws ≡ replicate (length ws) 0
 
--- What a flag says that is true before the first word, stays past a word that is 0, and is false past any other.
-pub zeros_none : (ws : List ℕ) → (true ≡ true) ↔ Zeros ws 0
-zeros_none ws = (λ _. below_none (λ k. get_or ws k 0 ≡ 0), λ _. refl)
+-- The list with one word more at its end.
+clear_all : (ws : List ℕ) (w : ℕ) → IsClear (ws ++ w ∷ []) → IsClear ws × (w ≡ 0)
+clear_all [] w h = (refl, cc h)
+clear_all (v ∷ ws) w h =
+    let rest : IsClear (ws ++ w ∷ []) = cc h in
+    let first : v ≡ 0 = cc h in
+    let (front, last) = clear_all ws w rest in
+    (cc (first, front), last)
 
-pub zeros_more : (ws : List ℕ) (i : ℕ) {a b : Bool}
-    → (a ≡ true) ↔ Zeros ws i
-    → get_or ws i 0 ≡ 0
-    → b ≡ a
-    → (b ≡ true) ↔ Zeros ws (i + 1)
-zeros_more ws i h z e =
-    (λ t. below_more (λ k. get_or ws k 0 ≡ 0) i (h.0 (sym e ∙ t)) z, λ all. e ∙ h.1 (λ k l. all k (omega arith)))
+clear_both : (ws : List ℕ) (w : ℕ) → IsClear ws → w ≡ 0 → IsClear (ws ++ w ∷ [])
+clear_both [] w h last = cc last
+clear_both (v ∷ ws) w h last =
+    let rest : IsClear ws = cc h in
+    let first : v ≡ 0 = cc h in
+    cc (first, clear_both ws w rest last)
 
-pub zeros_not : (ws : List ℕ) (i : ℕ) {b : Bool} → ¬ (get_or ws i 0 ≡ 0) → b ≡ false → (b ≡ true) ↔ Zeros ws (i + 1)
-zeros_not ws i n e = (λ t. absurd (true≢false (sym t ∙ e)), λ all. absurd (n (all i (omega arith))))
-
-pub zeros_all : (ws : List ℕ) → Zeros ws (length ws) ↔ (ws ≡ replicate (length ws) 0)
-zeros_all ws = (
-  λ all.
-      ext_get_or 0 ws (replicate (length ws) 0) (sym (length-replicate (length ws) 0)) λ i l.
-      all i l ∙ sym (get_or-replicate (length ws) i 0 0 l),
-  λ e k l. ap (λ x. get_or x k 0) e ∙ get_or-replicate (length ws) k 0 0 l,
+-- So a flag that says of a list whether it is clear says it of the longer one, with the test of the last word beside it.
+pub clear_push : (ws : List ℕ) (w : ℕ) (a : Bool) {b : Bool}
+    → (a ≡ true) ↔ IsClear ws
+    → b ≡ (a && eqb w 0)
+    → (b ≡ true) ↔ IsClear (ws ++ w ∷ [])
+clear_push ws w true h e = (
+  λ t. clear_both ws w (h.0 refl) (eqb-true w 0 (sym e ∙ t)),
+  λ all. e ∙ eq-eqb w 0 (clear_all ws w all).1,
 )
+clear_push ws w false h e = (λ t. absurd (cc (t, e)), λ all. absurd (cc (h.1 (clear_all ws w all).0)))
 
-pub filled : (ws : List ℕ) → replicate (length ws) 0 ++ drop (length ws) ws ≡ replicate (length ws) 0
-filled ws = ap (λ r. replicate (length ws) 0 ++ r) (drop-length ws) ∙ append-nil (replicate (length ws) 0)
+pub clear_none : (true ≡ true) ↔ IsClear []
+clear_none = (λ _. refl, λ _. refl)
 
 pub cleared_none : (ws : List ℕ) → ws ≡ cleared 0 ws
 unfolding cleared begun
@@ -90,9 +95,3 @@ cleared_more n e ws {before} {after} l u h a =
         ap (λ b. drop (e - n) (drop n b)) now
         ∙ ap (drop (e - n)) (drop_at zeros (drop n ws) n (length-replicate n 0))
         ∙ Post-is n e ws l
-
--- A part that is 0 already is as if it were made so.
-pub part_clear : (n k : ℕ) (ws : List ℕ)
-    → mid_of n k ws ≡ replicate (length (mid_of n k ws)) 0
-    → ws ≡ put_mid n k ws (replicate (length (mid_of n k ws)) 0)
-part_clear n k ws h = sym (put_same n k ws) ∙ ap (put_mid n k ws) h

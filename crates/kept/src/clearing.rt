@@ -6,26 +6,7 @@ ghost use Rattle.calculus.specs.Outcomes.{cleared};
 fn is_clear(words: &[u16]) -> bool
     ensures { (result ≡ true) ↔ (words.now ≡ replicate (length words.now) 0) }
 {
-    let mut clear = true;
-    let mut i = 0;
-    while i < words.len() {
-        if words[i] != 0 {
-            clear = false;
-        }
-        i += 1;
-    }
-    clear
-}
-
-// Makes every word 0.
-fn fill(words: &mut [u16])
-    ensures { words.new ≡ replicate (length words.old) 0 }
-{
-    let mut i = 0;
-    while i < words.len() {
-        words[i] = 0;
-        i += 1;
-    }
+    words.iter().fold(true, |clear, word| clear & (*word == 0))
 }
 
 // Makes the words of the first `blocks` blocks 0.
@@ -33,13 +14,10 @@ pub fn clear(work: &mut [u16], blocks: usize)
     requires { 512 * blocks ≤ length work.old }
     ensures { work.new ≡ cleared (512 * blocks) work.old }
 {
-    let mut block = 0;
-    while block < blocks {
-        let from = 512 * block;
-        let to = from + 512;
-        if !is_clear(&work[from..to]) {
-            fill(&mut work[from..to]);
+    for block in 0..blocks {
+        let part = &mut work[512 * block..512 * (block + 1)];
+        if !is_clear(part) {
+            part.fill(0);
         }
-        block += 1;
     }
 }

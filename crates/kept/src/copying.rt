@@ -2,26 +2,16 @@
 ghost use Rattle.std.specs.Prelude.{◌≤◌, length};
 ghost use Rattle.kept.specs.Writing.{Writes};
 
-// The place behind what was written, or that it does not fit.
-#[derive(Drop)]
-pub enum Room {
-    To(usize),
-    Full,
-}
-
-// Writes all of `source`.
-pub fn copy(source: &[u16], out: &mut [u16], at: usize) -> Room
+// Writes all of `source`, and answers the place behind it; nothing where it does not fit.
+pub fn copy(source: &[u16], out: &mut [u16], at: usize) -> Option<usize>
     requires { at ≤ length out.old }
     ensures { Writes source.now out.old at result out.new }
 {
     let count = source.len();
     if out.len() - at < count {
-        return Room::Full;
+        return None;
     }
-    let mut i = 0;
-    while i < count {
-        out[at + i] = source[i];
-        i += 1;
-    }
-    Room::To(at + count)
+    let end = at + count;
+    out[at..end].copy_from_slice(source);
+    Some(end)
 }

@@ -6,9 +6,9 @@ ghost use Rattle.calculus.specs.Words.{words, longest};
 ghost use Rattle.calculus.specs.Outcomes.{begun};
 ghost use Rattle.term.specs.Kept.{Lies, kept, length_at};
 
-use term::word::{shape_of, wide};
+use term::word::shape_of;
 
-// A place or a length as a word.
+// A place or a length as a word. A cast alone does not say that nothing of it is lost.
 pub fn narrow(count: usize) -> u16
     requires { count ≤ 2048 }
     ensures { result ≡ count }
@@ -22,7 +22,7 @@ pub fn length_at(slice: &[u16], node: usize) -> usize
     ensures value { result ≡ length_at slice.now node }
     ensures value_2 { (t : Term) → Lies t slice.now node → result ≡ size t }
 {
-    wide(slice[2 * node + 1])
+    usize::from(slice[2 * node + 1])
 }
 
 // Keeps a plain term from the node `at` on. From its end, so that the lengths of a node's parts are at hand: this is the one walk over
@@ -32,9 +32,7 @@ pub fn note(plain: &[u16], out: &mut [u16], at: usize)
     ensures { (t : Term) → plain.now ≡ words t → out.new ≡ sets out.old (2 * at) (kept t) }
 {
     let end = at + plain.len();
-    let mut node = end;
-    while at < node {
-        node -= 1;
+    for node in (at..end).rev() {
         let word = plain[node - at];
         let shape = shape_of(word);
         let count = shape.parts;
@@ -55,10 +53,7 @@ fn noted(out: &[u16], node: usize, end: usize) -> usize
     requires { 2 * end ≤ length out.now }
     ensures { (node < end → result ≡ length_at out.now node) × (end ≤ node → result ≡ 0) }
 {
-    if node < end {
-        return length_at(out, node);
-    }
-    0
+    if node < end { length_at(out, node) } else { 0 }
 }
 
 // Writes the plain words of a kept term to the front of `out`.
@@ -66,10 +61,7 @@ pub fn spell(slice: &[u16], out: &mut [u16])
     requires { (t : Term) × (slice.now ≡ kept t) × (size t ≤ length out.old) }
     ensures { (t : Term) → slice.now ≡ kept t → out.new ≡ begun (words t) out.old }
 {
-    let count = slice.len() / 2;
-    let mut i = 0;
-    while i < count {
+    for i in 0..slice.len() / 2 {
         out[i] = slice[2 * i];
-        i += 1;
     }
 }

@@ -6,9 +6,9 @@ use mathlib.Core.Path.{◌≡◌, refl, sym, ap, ◌∙◌}
 use native.Mathlib.Omega.{arith}
 use lib.ListN.{length, take}
 use lib.Seq.{sets, take_all}
-use Rattle.text.specs.Appending.{Appends}
+use Rattle.text.specs.Appending.{appended}
 use Rattle.text.specs.Pairs.{pairs, allowed}
-use Rattle.text.proofs.Appended.{both}
+use Rattle.text.proofs.Appended.{appends}
 use Rattle.text.proofs.Pairs.{length_pairs, all_stored}
 use Rattle.protocol.specs.Answers.{Replies, refusal_line, reply}
 use Rattle.protocol.specs.Requests.{keeping}
@@ -16,8 +16,8 @@ use Rattle.protocol.specs.declared.request.Request.{Request}
 use Rattle.protocol.proofs.Requesting.{kept_alone}
 use Rattle.modules.specs.Files.{file_reply, tabbed, Tells, tells}
 
-module _ (q : Request) (bs W : List ℕ) {out after : List ℕ} {at r : ℕ} where
-  pub not_allowed : allowed bs ≡ false → Appends (refusal_line 4 0) out at r after → Replies (file_reply q bs W) W out at r after
+module _ {N : ℕ} (q : Request) (bs W : List ℕ) {page page' : List ℕ} where
+  pub not_allowed : allowed bs ≡ false → page' ≡ appended N page (refusal_line 4 0) → Replies N (file_reply q bs W) W page page'
   unfolding file_reply
   not_allowed e h = rw e (record { text = h; work = refl })
 
@@ -26,8 +26,8 @@ module _ (q : Request) (bs W : List ℕ) {out after : List ℕ} {at r : ℕ} whe
       → length room ≡ 1024
       → allowed bs ≡ true
       → ws ≡ sets room 0 (pairs bs)
-      → Replies (reply (keeping q (length bs / 2)) ws W) W' out at r after
-      → Replies (file_reply q bs W) W' out at r after
+      → Replies N (reply (keeping q (length bs / 2)) ws W) W' page page'
+      → Replies N (file_reply q bs W) W' page page'
   unfolding file_reply
   are_words {ws} room n e s h =
       let half = length_pairs bs in
@@ -37,10 +37,11 @@ module _ (q : Request) (bs W : List ℕ) {out after : List ℕ} {at r : ℕ} whe
       rw e (rw (← half, same) at h)
 
 -- A path's answer with a tab, the path and a line feed behind it.
-pub with_path : {q : Request} {W W' out o₁ o₂ o₃ o₄ path : List ℕ} {at r₁ r₂ r₃ r₄ : ℕ}
-    → Tells q (λ a. a) W W' out at r₁ o₁
-    → Appends (9 ∷ []) o₁ r₁ r₂ o₂
-    → Appends path o₂ r₂ r₃ o₃
-    → Appends (10 ∷ []) o₃ r₃ r₄ o₄
-    → Tells q (tabbed path) W W' out at r₄ o₄
-with_path (tells t h) tab name feed = tells t (record { text = both (both (both h.text tab) name) feed; work = h.work })
+pub with_path : {N : ℕ} {q : Request} {W W' page p₁ p₂ p₃ p₄ path : List ℕ}
+    → Tells N q (λ a. a) W W' page p₁
+    → p₂ ≡ appended N p₁ (9 ∷ [])
+    → p₃ ≡ appended N p₂ path
+    → p₄ ≡ appended N p₃ (10 ∷ [])
+    → Tells N q (tabbed path) W W' page p₄
+with_path (tells t h) tab name feed =
+    tells t (record { text = rw (feed, name, tab, h.text) (simp appends refl); work = h.work })

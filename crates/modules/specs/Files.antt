@@ -21,6 +21,6 @@ pub data Told (q : Request) (W : List ℕ) : Reply → Type 0 where
 abbrev pub tabbed : List ℕ → Reply → Reply
 tabbed path a = record { text = a.text ++ (9 ∷ []) ++ path ++ (10 ∷ []); work = a.work }
 
--- `Tells q f W W' out at r out'`: what a path may be told, in the form f, is appended to `out`.
-pub data Tells (q : Request) (f : Reply → Reply) (W W' out : List ℕ) (at r : ℕ) (out' : List ℕ) : Type 0 where
-  tells : {a : Reply} → Told q W a → Replies (f a) W' out at r out' → Tells q f W W' out at r out'
+-- `Tells N q f W W' page page'`: what a path may be told, in the form f, is appended to a page of N bytes.
+pub data Tells (N : ℕ) (q : Request) (f : Reply → Reply) (W W' page page' : List ℕ) : Type 0 where
+  tells : {a : Reply} → Told q W a → Replies N (f a) W' page page' → Tells N q f W W' page page'

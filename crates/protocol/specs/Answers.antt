@@ -1,16 +1,17 @@
 -- The text of the answer to a request (docs/FORMAT.md, The line protocol), from the outcomes of the calculus, and what the answer
 -- leaves in the working slice.
-use Rattle.std.specs.Prelude.{ℕ, Bool, true, false, cond, List, [], ◌∷◌, ◌++◌, ◌≡◌, eqb, take, replicate}
+use Rattle.std.specs.Prelude.{ℕ, Bool, true, false, cond, Option, Some, List, [], ◌∷◌, ◌++◌, ◌≡◌, eqb, take, replicate}
 use Rattle.calculus.specs.Answer.{Answer, ok, refused, number}
 use Rattle.calculus.specs.Kinds.{Counts, counts}
 use Rattle.calculus.specs.Run.{end_number}
 use Rattle.calculus.specs.Outcomes.{Checked, check, alone, allowance_of, Stop, Ran, run, part}
 use Rattle.term.specs.Walk.{span}
 use Rattle.feguavy.specs.declared.RanNumbers.{RanNumbers}
-use Rattle.text.specs.Appending.{Appends}
+use Rattle.text.specs.Appending.{appended}
 use Rattle.text.specs.Texts.{ascii, spaced}
-use Rattle.protocol.specs.Forms.{asks_check, asks_run, asks_kinds, asks_part}
-use Rattle.protocol.specs.Requests.{last, before_last}
+use Rattle.protocol.specs.Forms.{asked}
+use Rattle.protocol.specs.declared.asked.Asked.{Asked}
+use Rattle.protocol.specs.declared.asked.Asked.TheVariants.{Check, Run, Kinds, Part}
 use Rattle.protocol.specs.declared.request.Request.{Request}
 
 -- `refused REASON PLACE`.
@@ -79,19 +80,21 @@ abbrev pub part_reply : List ℕ → ℕ → List ℕ → Reply
 part_reply ws k W = record { text = part_line (part ws k); work = W }
 
 -- The reply to a request, whose term is the first of the words kept. "Anything else: `error`".
+abbrev pub reply_to : Option Asked → List ℕ → List ℕ → Reply
+reply_to (Some (Check limit)) ws W = check_reply ws limit W
+reply_to (Some (Run budget allowance)) ws W = run_reply false ws budget allowance W
+reply_to (Some (Kinds budget allowance)) ws W = run_reply true ws budget allowance W
+reply_to (Some (Part number)) ws W = part_reply ws number W
+reply_to _ ws W = record { text = ascii "error"; work = W }
+
 unfoldable pub reply : Request → List ℕ → List ℕ → Reply
-reply q ws W =
-    let term = take q.count ws in
-    cond (asks_check q) (check_reply term (last q) W)
-    (cond (asks_run q) (run_reply false term (before_last q) (last q) W)
-    (cond (asks_kinds q) (run_reply true term (before_last q) (last q) W)
-    (cond (asks_part q) (part_reply term (last q) W) (record { text = ascii "error"; work = W }))))
+reply q ws W = reply_to (asked q) (take q.count ws) W
 
 -- "One answer a line": the reply with a line feed behind its text.
 abbrev pub ended_by_feed : Reply → Reply
 ended_by_feed a = record { text = a.text ++ (10 ∷ []); work = a.work }
 
--- `Replies a W' out at r out'`: the text of the reply is appended to `out`, and the working slice is left as the reply says.
-pub record Replies (a : Reply) (W' out : List ℕ) (at r : ℕ) (out' : List ℕ) : Type 0 where
-  pub text : Appends a.text out at r out'
+-- `Replies N a W' page page'`: the text of the reply is appended to a page of N bytes, and the working slice is left as the reply says.
+pub record Replies (N : ℕ) (a : Reply) (W' page page' : List ℕ) : Type 0 where
+  pub text : page' ≡ appended N page a.text
   pub work : W' ≡ a.work

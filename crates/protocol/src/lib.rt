@@ -2,6 +2,7 @@
 #![tactic(auto)]
 
 pub mod answer;
+pub mod asked;
 pub mod desk;
 pub mod output;
 pub mod request;

@@ -1,10 +1,12 @@
 // The answers on their way to standard output, and what is said of them on standard error.
-ghost use Rattle.std.specs.Prelude.{◌+◌, ◌-◌, ◌^◌, min, ◌≡◌, ◌++◌};
-ghost use Rattle.text.specs.Appending.{Appends};
+ghost use Rattle.std.specs.Prelude.{◌++◌, ◌≡◌};
+ghost use Rattle.text.specs.Appending.{appended};
 ghost use Rattle.text.specs.Texts.{ascii, decimal};
-ghost use Rattle.protocol.specs.Outputs.{one_more, Flushed, Ready, Roomy};
+ghost use Rattle.protocol.specs.Outputs.{none_yet, one_more, Flushed, Ready, Roomy};
 
-use streams::Devices;
+use streams::{Devices, Errno};
+use text::front;
+use text::page::Page;
 
 // Room for the longest line: a thousand words, and a path.
 const LONGEST: usize = 16384;
@@ -12,91 +14,81 @@ const LONGEST: usize = 16384;
 // The steps of a run that may take long.
 const LONG: u32 = 100000;
 
-// How much of the buffer is filled, how many answers were made and how many of these are written out whole, and the system's number of
-// what keeps the rest from being written, 0 for nothing.
+// How many answers were made and how many of these are written out whole, and what keeps the rest from being written.
 #[derive(Clone, Copy)]
 pub struct Output {
-    pub filled: usize,
     pub answered: u64,
     pub written: u64,
-    pub error: u32,
-}
-
-// The sum, or the largest number.
-fn sum(a: u64, b: u64) -> u64
-    ensures { result ≡ min (a + b) (2 ^ 64 - 1) }
-{
-    if b <= u64::MAX - a { a + b } else { u64::MAX }
+    pub error: Option<Errno>,
 }
 
 impl Output {
     pub fn new() -> Self
-        ensures { result ≡ record { filled = 0; answered = 0; written = 0; error = 0 } }
+        ensures { result ≡ none_yet }
     {
         Output {
-            filled: 0,
             answered: 0,
             written: 0,
-            error: 0,
+            error: None,
         }
     }
 
-    // With one more answer, which ends at `end`.
-    pub fn answered(self, end: usize) -> Self
-        ensures { result ≡ one_more self end }
+    // With one more answer.
+    pub fn answered(self) -> Self
+        ensures { result ≡ one_more self }
     {
         Output {
-            filled: end,
-            answered: sum(self.answered, 1),
-            written: self.written,
-            error: self.error,
+            answered: self.answered.saturating_add(1),
+            ..self
         }
     }
 
-    // With the buffer written out. Where that failed once, nothing is written behind the gap.
-    pub fn flushed<R: Devices>(self, rt: &R, out: &[u8]) -> Self
-        ensures { Flushed self out.now result }
+    // With the page written out. Where that failed once, nothing is written behind the gap.
+    pub fn flushed<R: Devices, const N: usize>(self, rt: &R, page: &mut Page<N>) -> Self
+        ensures { Flushed self page.old result page.new }
     {
-        if self.error != 0 {
+        if self.error.is_some() {
             return self;
         }
-        let sent = streams::write_all(rt, &mut rt.output(), text::filled(out, self.filled));
-        if sent.error == 0 {
-            return Output {
-                filled: 0,
-                answered: self.answered,
+        let after = match streams::write_all(rt, &mut rt.output(), page.bytes()) {
+            Ok(()) => Output {
                 written: self.answered,
-                error: 0,
-            };
-        }
-        let lines = streams::lines(text::filled(out, sent.count));
-        Output {
-            filled: 0,
-            answered: self.answered,
-            written: sum(self.written, lines as u64),
-            error: sent.error,
-        }
+                ..self
+            },
+            Err(cut) => {
+                let lines = streams::lines(front(page.bytes(), cut.count));
+                Output {
+                    written: self.written.saturating_add(lines as u64),
+                    error: Some(cut.error),
+                    ..self
+                }
+            }
+        };
+        page.clear();
+        after
     }
 
     // Written out where the longest line might not fit.
-    pub fn with_room<R: Devices>(self, rt: &R, out: &[u8]) -> Self
-        ensures { Roomy self out.now result }
+    pub fn with_room<R: Devices, const N: usize>(self, rt: &R, page: &mut Page<N>) -> Self
+        ensures { Roomy N self page.old result page.new }
     {
-        let filled = self.filled;
-        if filled < out.len() {
-            if LONGEST <= out.len() - filled {
-                return self;
-            }
+        if LONGEST <= page.room() {
+            return self;
         }
-        self.flushed(rt, out)
+        self.flushed(rt, page)
     }
 
     // Written out before a run that is granted so many steps that those before it should not wait for it.
-    pub fn ready_for<R: Devices>(self, rt: &R, grant: u32, out: &[u8]) -> Self
-        ensures { Ready self grant out.now result }
+    pub fn ready_for<R: Devices, const N: usize>(
+        self,
+        rt: &R,
+        grant: u32,
+        page: &mut Page<N>,
+    ) -> Self
+        ensures { Ready self grant page.old result page.new }
     {
         if LONG <= grant {
-            return self.flushed(rt, out);
+            return self.flushed(rt, page);
         }
         self
     }
@@ -111,48 +103,52 @@ impl Output {
         device: &[u8],
         error: u32,
     ) {
-        let mut line = [0u8; 256];
-        let answered = opening(program, b": answered ", self.written, thing, &mut line, 0);
-        let front = missing(thing, sum(self.written, 1), &mut line, answered);
-        let end = text::bytes(device, &mut line, front);
-        streams::say(rt, text::filled(&line, end), error);
+        let mut line = Page::<256>::new();
+        opening(program, b": answered ", self.written, thing, &mut line);
+        missing(thing, self.written.saturating_add(1), &mut line);
+        line.text(device);
+        streams::say(rt, line.bytes(), error);
+    }
+
+    // Says what became of the answers: a receipt where all are written.
+    pub fn concluded<R: Devices>(self, rt: &R, program: &[u8], thing: &[u8]) {
+        match self.error {
+            Some(error) => self.stopped(rt, program, thing, b"standard output", error.number),
+            None => self.receipt(rt, program, thing),
+        }
     }
 
     // Says on standard error that all was answered and written: `PROGRAM: N THINGs answered`.
-    pub fn receipt<R: Devices>(self, rt: &R, program: &[u8], thing: &[u8]) {
-        let mut line = [0u8; 256];
-        let counted = opening(program, b": ", self.written, thing, &mut line, 0);
-        let end = text::bytes(b" answered\n", &mut line, counted);
-        streams::write_all(rt, &mut rt.errors(), text::filled(&line, end));
+    fn receipt<R: Devices>(self, rt: &R, program: &[u8], thing: &[u8]) {
+        let mut line = Page::<256>::new();
+        opening(program, b": ", self.written, thing, &mut line);
+        line.text(b" answered\n");
+        // Where the last place to speak of it fails, nothing is left to say that.
+        let _ = streams::write_all(rt, &mut rt.errors(), line.bytes());
     }
 }
 
 // `PROGRAM`, `WORD N` and ` THINGs`.
-fn opening(
-    program: &[u8],
-    word: &[u8],
-    count: u64,
-    thing: &[u8],
-    out: &mut [u8],
-    at: usize,
-) -> usize
-    ensures { Appends (program.now ++ (word.now ++ decimal count) ++ ascii " " ++ thing.now ++ ascii "s")
-        out.old at result out.new }
+#[tactic(auto, using(text::proofs::Appended::appends), unfolding(text::specs::Texts::ascii))]
+fn opening(program: &[u8], word: &[u8], count: u64, thing: &[u8], page: &mut Page<256>)
+    ensures { page.new ≡ appended 256 page.old (program.now ++ word.now ++ decimal count ++ ascii " " ++ thing.now ++ ascii "s") }
 {
-    let named = text::bytes(program, out, at);
-    let counted = text::named(word, count, out, named);
-    let spaced = text::bytes(b" ", out, counted);
-    let things = text::bytes(thing, out, spaced);
-    text::bytes(b"s", out, things)
+    page.text(program);
+    page.text(word);
+    page.decimal(count);
+    page.text(b" ");
+    page.text(thing);
+    page.text(b"s");
 }
 
 // `, not THING N: `.
-fn missing(thing: &[u8], number: u64, out: &mut [u8], at: usize) -> usize
-    ensures { Appends (ascii ", not " ++ thing.now ++ (ascii " " ++ decimal number) ++ ascii ": ")
-        out.old at result out.new }
+#[tactic(auto, using(text::proofs::Appended::appends), unfolding(text::specs::Texts::ascii))]
+fn missing(thing: &[u8], number: u64, page: &mut Page<256>)
+    ensures { page.new ≡ appended 256 page.old (ascii ", not " ++ thing.now ++ ascii " " ++ decimal number ++ ascii ": ") }
 {
-    let not = text::bytes(b", not ", out, at);
-    let named = text::bytes(thing, out, not);
-    let numbered = text::named(b" ", number, out, named);
-    text::bytes(b": ", out, numbered)
+    page.text(b", not ");
+    page.text(thing);
+    page.text(b" ");
+    page.decimal(number);
+    page.text(b": ");
 }

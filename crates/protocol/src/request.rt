@@ -6,6 +6,7 @@ ghost use Rattle.protocol.specs.Requests.{
   refused,
   letter,
   digit,
+  verb_named,
   named,
   number,
   keeping,
@@ -20,31 +21,74 @@ ghost use Rattle.protocol.specs.Requests.{
   line_length,
 };
 
-// The topics, their letters as one number: none, and `desk`.
-pub const NONE: u64 = 0;
+// The letters of the topic and of the verbs, as one number in base 256.
+const DESK: u64 = 1684370283;
 
-pub const DESK: u64 = 1684370283;
+const CHECK: u64 = 426953237355;
 
-// The phases in which a line may end: without words, and behind the bar.
-pub const BARE: u32 = 1;
+const RUN: u64 = 7501166;
 
-pub const BARRED: u32 = 2;
+const KINDS: u64 = 461330343027;
+
+const PART: u64 = 1885434484;
+
+const NEW: u64 = 7234935;
+
+const SHOW: u64 = 1936224119;
+
+// What a line asks to be done.
+#[derive(Clone, Copy, Debug, PartialEq, Eq)]
+pub enum Verb {
+    Check,
+    Run,
+    // A run with its counts by kind.
+    Kinds,
+    Part,
+    // Of the desk.
+    New,
+    Show,
+}
+
+impl Verb {
+    // The verb of these letters.
+    #[tactic(auto, unfolding(crate::specs::Requests::verb_named))]
+    fn named(letters: u64) -> Option<Verb>
+        ensures { result ≡ verb_named letters }
+    {
+        match letters {
+            CHECK => Some(Verb::Check),
+            RUN => Some(Verb::Run),
+            KINDS => Some(Verb::Kinds),
+            PART => Some(Verb::Part),
+            NEW => Some(Verb::New),
+            SHOW => Some(Verb::Show),
+            _ => None,
+        }
+    }
+}
+
+// What a field is: the topic or the verb, a number, or, behind the bar, a word.
+#[derive(Clone, Copy, Debug, PartialEq, Eq)]
+pub enum Phase {
+    Verb,
+    Numbers,
+    Words,
+}
 
 // What is known of a line so far.
 #[derive(Clone, Copy)]
 pub struct Request {
-    // 0 before the verb's end, 1 among the numbers, 2 behind the bar
-    pub phase: u32,
-    // what the request is about, where the line begins with that, else 0; and the verb: the letters of each as one number
-    pub topic: u64,
-    pub verb: u64,
+    pub phase: Phase,
+    // whether it is about the desk, and its verb: none before that is read, and where its letters are none's
+    pub desk: bool,
+    pub verb: Option<Verb>,
     // the last numbers, of which the newest is the last, and how many were read
     pub values: [u32; 8],
     pub numbers: u32,
-    // the field being read, and how many bytes it has
+    // the field being read and how many bytes it has; letters as one number too, so that a byte is one sum whatever the field is
     pub field: u64,
     pub width: u32,
-    // how many words are kept
+    // how many words are kept, which stand in the caller's slice: a request is handed on without them
     pub count: usize,
     // whether any byte was read, and whether the line is no request
     pub any: bool,
@@ -63,9 +107,9 @@ impl Request {
         ensures { result ≡ unread }
     {
         Request {
-            phase: 0,
-            topic: 0,
-            verb: 0,
+            phase: Phase::Verb,
+            desk: false,
+            verb: None,
             values: [0; 8],
             numbers: 0,
             field: 0,
@@ -94,15 +138,13 @@ impl Request {
     pub fn last(self) -> u32
         ensures { result ≡ last self }
     {
-        let values = self.values;
-        values[7]
+        self.values[7]
     }
 
     pub fn before_last(self) -> u32
         ensures { result ≡ before_last self }
     {
-        let values = self.values;
-        values[6]
+        self.values[6]
     }
 
     // With the bytes from `from` on, up to the line feed.
@@ -111,19 +153,29 @@ impl Request {
         ensures at_value { result.at ≡ from + line_length (drop from input.now) }
     {
         let mut line = self;
-        let mut at = from;
-        while at < input.len() {
-            let byte = input[at];
+        let Some(rest) = input.get(from..) else {
+            return Fed {
+                request: line,
+                at: from,
+            };
+        };
+        for (read, &byte) in rest.iter().enumerate() {
             if byte == b'\n' {
-                return Fed { request: line, at };
+                return Fed {
+                    request: line,
+                    at: from + read,
+                };
             }
             line = line.fed(byte, words);
-            at += 1;
         }
-        Fed { request: line, at }
+        Fed {
+            request: line,
+            at: from + rest.len(),
+        }
     }
 
     // With one more byte.
+    #[tactic(auto, unfolding(crate::specs::Requests::fed, crate::specs::Requests::parting))]
     pub fn fed(mut self, byte: u8, words: &mut [u16]) -> Self
         ensures { line_of result words.new ≡ fed self byte words.old }
     {
@@ -146,36 +198,33 @@ impl Request {
     }
 
     // One letter of the topic or of the verb, which have at most five: the four before it are a number of 32 bits.
+    #[tactic(auto, unfolding(crate::specs::Requests::letter))]
     fn letter(mut self, byte: u8) -> Self
         ensures { result ≡ letter self byte }
     {
-        if self.phase != 0 {
+        if self.phase != Phase::Verb || 4 < self.width {
             return self.refused();
         }
-        if 4 < self.width {
-            return self.refused();
-        }
-        self.field = self.field % 4294967296 * 256 + byte as u64;
+        self.field = self.field % 4294967296 * 256 + u64::from(byte);
         self.width += 1;
         self
     }
 
     // One digit of a number or a word. A field of more than 32 bits is too large for either.
+    #[tactic(auto, unfolding(crate::specs::Requests::digit))]
     fn digit(mut self, value: u8) -> Self
         ensures { result ≡ digit self value }
     {
-        if self.phase == 0 {
+        if self.phase == Phase::Verb || 4294967295 < self.field {
             return self.refused();
         }
-        if 4294967295 < self.field {
-            return self.refused();
-        }
-        self.field = self.field * 10 + value as u64;
+        self.field = self.field * 10 + u64::from(value);
         self.width = 1;
         self
     }
 
     // The field is at its end: the topic or the verb, a number or a word. A line is at its end where its last field is.
+    #[tactic(auto, unfolding(crate::specs::Requests::field_end))]
     pub fn field_ended(mut self, words: &mut [u16]) -> Self
         ensures { line_of result words.new ≡ field_end self words.old }
     {
@@ -185,69 +234,70 @@ impl Request {
         let field = self.field;
         self.field = 0;
         self.width = 0;
-        if self.phase == 0 {
-            return self.named(field);
+        match self.phase {
+            Phase::Verb => self.named(field),
+            Phase::Numbers => self.number(field),
+            Phase::Words => self.word(field, words),
         }
-        if self.phase == 1 {
-            return self.number(field);
-        }
-        self.word(field, words)
     }
 
-    // The letters of a topic, where there is none yet, or of the verb.
+    // The letters of the topic, where there is none yet, or of the verb.
+    #[tactic(auto, unfolding(crate::specs::Requests::named))]
     fn named(mut self, letters: u64) -> Self
         ensures { result ≡ named self letters }
     {
-        if letters == DESK && self.topic == 0 {
-            self.topic = letters;
-            self.phase = 0;
+        if letters == DESK && !self.desk {
+            self.desk = true;
+            self.phase = Phase::Verb;
             return self;
         }
-        self.verb = letters;
-        self.phase = 1;
+        self.verb = Verb::named(letters);
+        self.phase = Phase::Numbers;
         self
     }
 
     // A number of 32 bits, of which a request has eight at most.
+    #[tactic(auto, unfolding(crate::specs::Requests::number, crate::specs::Requests::pushed))]
     fn number(mut self, value: u64) -> Self
         ensures { result ≡ number self value }
     {
-        if 4294967295 < value {
+        let Ok(value) = u32::try_from(value) else {
             return self.refused();
-        }
+        };
         if 7 < self.numbers {
             return self.refused();
         }
-        let v = self.values;
-        self.values = [v[1], v[2], v[3], v[4], v[5], v[6], v[7], value as u32];
+        let [_, a, b, c, d, e, f, g] = self.values;
+        self.values = [a, b, c, d, e, f, g, value];
         self.numbers += 1;
         self
     }
 
     // A word of 16 bits, kept where there is room.
+    #[tactic(auto, unfolding(crate::specs::Requests::word))]
     fn word(mut self, value: u64, words: &mut [u16]) -> Self
         ensures { line_of result words.new ≡ word self value words.old }
     {
-        if 65535 < value {
+        let Ok(value) = u16::try_from(value) else {
             return self.refused();
-        }
-        let count = self.count;
-        if count < words.len() {
-            words[count] = value as u16;
-            self.count = count + 1;
+        };
+        if self.count < words.len() {
+            words[self.count] = value;
+            self.count += 1;
         }
         self
     }
 
     // The bar between the numbers and the words.
+    #[tactic(auto, unfolding(crate::specs::Requests::barred))]
     fn bar(self, words: &mut [u16]) -> Self
         ensures { line_of result words.new ≡ barred (field_end self words.old) }
     {
         let mut line = self.field_ended(words);
-        if line.phase != 1 {
+        if line.phase != Phase::Numbers {
             return line.refused();
         }
-        line.phase = 2;
+        line.phase = Phase::Words;
         line
     }
 }

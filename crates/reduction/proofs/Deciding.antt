@@ -4,6 +4,7 @@ use Prim.Native.Nat.{ℕ, zero, suc, pred, ◌+◌, ◌*◌, ◌-◌, ◌<◌}
 use mathlib.Core.Bool.{Bool, true, false, cond}
 use mathlib.Core.List.{List, []}
 use mathlib.Core.Option.{some}
+use Rattle.std.specs.Prelude.{Result, Ok}
 use mathlib.Core.Path.{◌≡◌, refl, sym, ap, ap₂, ◌∙◌, subst}
 use native.Mathlib.Numerals.{sub-one}
 use native.Mathlib.Omega.{arith}
@@ -21,23 +22,24 @@ use Rattle.book.specs.Layout.{Defines, Holds, shows, sight}
 use Rattle.book.specs.declared.Reader.{Reader}
 use Rattle.book.proofs.Entries.{entry_of, sight_shown, sight_hidden}
 use Rattle.reduction.specs.declared.stepping.Redex.{Redex}
-use Rattle.reduction.specs.declared.stepping.Redex.TheVariants.{Stuck, Name}
+use Rattle.reduction.specs.declared.stepping.Redex.TheVariants.{Name}
+use Rattle.reduction.specs.declared.stepping.Rest.{Rest}
 use Rattle.reduction.specs.Stepping.{Keeps, locate, heads}
 use Rattle.reduction.proofs.WordKinds.{index, kind, variant_kind, kind_by}
-use Rattle.reduction.proofs.Heads.{stands, visible, outermost, framed, decide, decided, leader}
+use Rattle.reduction.proofs.Heads.{stuck, stands, visible, outermost, framed, decide, decided, leader}
 use Rattle.reduction.proofs.Heads.{name_decide, located, leader_named, heads_inside, word_spelled}
 
 pub heads_within : {ws : List ℕ} {at : ℕ} (t : Term) → ws ≡ kept t → at ≡ heads ws → 2 * at + 1 < length ws
 unfolding kept
 heads_within t coded counted = rw (counted, coded) (heads_inside t [])
 
-by_place : (v : View) (at : ℕ) (m : calculus.Meaning) (p : ℕ) {r : Redex}
-    → (at ≡ 0 → get_or (outermost (visible v m)) (index m) Stuck ≡ r)
-    → ((at ≡ 0 → ⊥) → get_or (framed (visible v m) at (at - 1) p) (index m) Stuck ≡ r)
+by_place : (v : View) (at : ℕ) (m : calculus.Meaning) (p : ℕ) {r : Result Redex Rest}
+    → (at ≡ 0 → get_or (outermost (visible v m)) (index m) stuck ≡ r)
+    → ((at ≡ 0 → ⊥) → get_or (framed (visible v m) at (at - 1) p) (index m) stuck ≡ r)
     → decide v at m p ≡ r
 by_place v zero m p root inner = root refl
 by_place v (suc n) m p root inner =
-    ap (λ b. get_or (framed (visible v m) (suc n) b p) (index m) Stuck) (sym (sub-one (suc n))) ∙ inner λ z. omega arith
+    ap (λ b. get_or (framed (visible v m) (suc n) b p) (index m) stuck) (sym (sub-one (suc n))) ∙ inner λ z. omega arith
 
 -- What is seen of a name of the book, by whether its definition is shown.
 name_seen : (who : Reader) (B : Book) (i : ℕ) {book : List ℕ} (shown : Bool)
@@ -101,19 +103,19 @@ module _ {who : Reader} {ws : List ℕ} {at : ℕ} {m : Meaning} (d : Decides wh
       → (B : Book) (t : Term)
       → Holds B book
       → Keeps B t ws
-      → cond shown (Name at) Stuck ≡ locate (sight who B) t
+      → cond shown (Ok (Name at)) stuck ≡ locate (sight who B) t
   found_name {book} {i} shown told same_number seen B t held k =
       let seen_of_it : (c : Definition) → Defines c i book → shown ≡ shows who c =
       λ c h. seen c (subst (λ n. Defines c n book) (sym same_number) h) in
-      ap (λ b. cond b (Name at) Stuck) (sym (name_seen who B i shown held (name_within B t held k told) seen_of_it))
+      ap (λ b. cond b (Ok (Name at)) stuck) (sym (name_seen who B i shown held (name_within B t held k told) seen_of_it))
       ∙ sym (name_decide (sight who B) at i (kind (word_at ws (at - 1))))
       ∙ ap (λ n. decide (sight who B) at n (kind (word_at ws (at - 1)))) (ap meaning_of (sym told) ∙ d.known)
       ∙ decides_it B t held k (sight who B)
 
   -- By the variant that the word's meaning is, for either place.
-  pub found : {book : List ℕ} {r : Redex}
-      → (at ≡ 0 → (s : Bool) → get_or (outermost s) (variant_kind m) Stuck ≡ r)
-      → ((at ≡ 0 → ⊥) → (s : Bool) → get_or (framed s at (at - 1) (kind (word_at ws (at - 1)))) (variant_kind m) Stuck ≡ r)
+  pub found : {book : List ℕ} {r : Result Redex Rest}
+      → (at ≡ 0 → (s : Bool) → get_or (outermost s) (variant_kind m) stuck ≡ r)
+      → ((at ≡ 0 → ⊥) → (s : Bool) → get_or (framed s at (at - 1) (kind (word_at ws (at - 1)))) (variant_kind m) stuck ≡ r)
       → (B : Book) (t : Term)
       → Holds B book
       → Keeps B t ws
@@ -130,23 +132,23 @@ module _ {who : Reader} {ws : List ℕ} {at : ℕ} {m : Meaning} (d : Decides wh
       p : ℕ
       p = kind (word_at ws (at - 1))
 
-      at_root : at ≡ 0 → get_or (outermost (visible v w)) (index w) Stuck ≡ r
+      at_root : at ≡ 0 → get_or (outermost (visible v w)) (index w) stuck ≡ r
       at_root z =
-          kind_by (λ k. get_or (outermost (visible v w)) k Stuck ≡ r) m (word_at ws at) d.known (root z (visible v w))
+          kind_by (λ k. get_or (outermost (visible v w)) k stuck ≡ r) m (word_at ws at) d.known (root z (visible v w))
 
-      at_inner : (at ≡ 0 → ⊥) → get_or (framed (visible v w) at (at - 1) p) (index w) Stuck ≡ r
+      at_inner : (at ≡ 0 → ⊥) → get_or (framed (visible v w) at (at - 1) p) (index w) stuck ≡ r
       at_inner n =
-          kind_by (λ k. get_or (framed (visible v w) at (at - 1) p) k Stuck ≡ r) m (word_at ws at) d.known (inner n (visible v w))
+          kind_by (λ k. get_or (framed (visible v w) at (at - 1) p) k stuck ≡ r) m (word_at ws at) d.known (inner n (visible v w))
 
   -- The same behind frames, where the word before is known too.
-  pub found_framed : {book : List ℕ} {r : Redex} (before : Meaning)
+  pub found_framed : {book : List ℕ} {r : Result Redex Rest} (before : Meaning)
       → meaning_of before ≡ meaning (word_at ws (at - 1))
       → (at ≡ 0 → ⊥)
-      → ((s : Bool) → get_or (framed s at (at - 1) (variant_kind before)) (variant_kind m) Stuck ≡ r)
+      → ((s : Bool) → get_or (framed s at (at - 1) (variant_kind before)) (variant_kind m) stuck ≡ r)
       → (B : Book) (t : Term)
       → Holds B book
       → Keeps B t ws
       → r ≡ locate (sight who B) t
   found_framed {r = r} before known-before framing each =
-      let P : Bool → ℕ → Type 0 = λ s p. get_or (framed s at (at - 1) p) (variant_kind m) Stuck ≡ r in
+      let P : Bool → ℕ → Type 0 = λ s p. get_or (framed s at (at - 1) p) (variant_kind m) stuck ≡ r in
       found (λ root. absurd (framing root)) (λ _ s. kind_by (P s) before (word_at ws (at - 1)) known-before (each s))

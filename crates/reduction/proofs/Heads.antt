@@ -5,6 +5,7 @@ use Prim.Native.Nat.{ℕ, zero, suc, pred, ◌+◌, ◌*◌, ◌≤◌, ◌<◌}
 use mathlib.Core.Bool.{Bool, true, false, cond, true≢false}
 use mathlib.Core.List.{List, [], ◌∷◌, map}
 use mathlib.Core.Option.{Option, none, some}
+use Rattle.std.specs.Prelude.{Result, Ok, Err}
 use mathlib.Core.Path.{◌≡◌, refl, sym, ap, ◌∙◌}
 use native.Mathlib.Omega.{arith}
 use lib.Dec.{eqb}
@@ -19,7 +20,9 @@ use Rattle.term.specs.Kept.{keep, word_at}
 use Rattle.term.proofs.Keeping.{spelled}
 use Rattle.reduction.specs.Stepping.{deeper, at_application, at_castdown, at_name, locate, heads}
 use Rattle.reduction.specs.declared.stepping.Redex.{Redex}
-use Rattle.reduction.specs.declared.stepping.Redex.TheVariants.{Value, Stuck, Beta, Cancel, Unfold, Name}
+use Rattle.reduction.specs.declared.stepping.Redex.TheVariants.{Beta, Cancel, Unfold, Name}
+use Rattle.reduction.specs.declared.stepping.Rest.{Rest}
+use Rattle.reduction.specs.declared.stepping.Rest.TheVariants.{Value, Stuck}
 use Rattle.reduction.proofs.Frames.{Frame, applied_to, cast_down, frame_word}
 use Rattle.reduction.proofs.Redexes.{at_node}
 use Rattle.reduction.proofs.WordKinds.{index, kind, framing, no_frame, framing_kind}
@@ -41,68 +44,75 @@ visible v (a_variable i) = false
 visible v (a_name i) = stands (v i)
 visible v nothing = false
 
+-- What has no redex.
+abbrev pub value : Result Redex Rest
+value = Err Value
+
+abbrev pub stuck : Result Redex Rest
+stuck = Err Stuck
+
 -- For each kind of word the redex, where `s` says whether the word is a visible name: at node 0, and behind frames, where `n` is the
 -- node of the word, `b` the one before it and `p` the kind of that one's word.
-abbrev pub outermost : Bool → List Redex
-outermost s = Value ∷ Stuck ∷ Stuck ∷ Value ∷ Value ∷ Unfold 0 ∷ Value ∷ Stuck ∷ Stuck ∷ cond s (Name 0) Stuck ∷ []
+abbrev pub outermost : Bool → List (Result Redex Rest)
+outermost s = value ∷ stuck ∷ stuck ∷ value ∷ value ∷ Ok (Unfold 0) ∷ value ∷ stuck ∷ stuck ∷ cond s (Ok (Name 0)) stuck ∷ []
 
-abbrev pub framed : Bool → ℕ → ℕ → ℕ → List Redex
+abbrev pub framed : Bool → ℕ → ℕ → ℕ → List (Result Redex Rest)
 framed s n b p =
-    Stuck
-    ∷ Stuck
-    ∷ Stuck
-    ∷ cond (eqb p 1) (Cancel b) Stuck
-    ∷ cond (eqb p 2) (Beta b) Stuck
-    ∷ Unfold n
-    ∷ Stuck
-    ∷ Stuck
-    ∷ Stuck
-    ∷ cond s (Name n) Stuck
+    stuck
+    ∷ stuck
+    ∷ stuck
+    ∷ cond (eqb p 1) (Ok (Cancel b)) stuck
+    ∷ cond (eqb p 2) (Ok (Beta b)) stuck
+    ∷ Ok (Unfold n)
+    ∷ stuck
+    ∷ stuck
+    ∷ stuck
+    ∷ cond s (Ok (Name n)) stuck
     ∷ []
 
-abbrev row : Bool → ℕ → ℕ → List Redex
+abbrev row : Bool → ℕ → ℕ → List (Result Redex Rest)
 row s zero p = outermost s
 row s (suc n) p = framed s (suc n) n p
 
-abbrev pub decide : View → ℕ → Meaning → ℕ → Redex
-decide v n m p = get_or (row (visible v m) n p) (index m) Stuck
+abbrev pub decide : View → ℕ → Meaning → ℕ → Result Redex Rest
+decide v n m p = get_or (row (visible v m) n p) (index m) stuck
 
 -- The word behind the leading down casts and applications.
 abbrev pub leader : List ℕ → ℕ
 leader ws = get_or (spelled ws) (heads ws) 0
 
-abbrev pub decided : View → List ℕ → Redex
+abbrev pub decided : View → List ℕ → Result Redex Rest
 decided v ws = decide v (heads ws) (meaning (leader ws)) (kind (get_or (spelled ws) (pred (heads ws)) 0))
 
-pub name_decide : (v : View) (n i p : ℕ) → decide v n (a_name i) p ≡ cond (stands (v i)) (Name n) Stuck
+pub name_decide : (v : View) (n i p : ℕ) → decide v n (a_name i) p ≡ cond (stands (v i)) (Ok (Name n)) stuck
 name_decide v zero i p = refl
 name_decide v (suc n) i p = refl
 
 -- A frame more around a frame.
-deeper_cond : (b : Bool) (r : Redex) → deeper (cond b r Stuck) Stuck ≡ cond b (deeper r Stuck) Stuck
+deeper_cond : (b : Bool) (r : Result Redex Rest) → deeper (cond b r stuck) stuck ≡ cond b (deeper r stuck) stuck
 unfolding deeper
 deeper_cond true r = refl
 deeper_cond false r = refl
 
-deeper_row : (s : Bool) (n p : ℕ) → map (λ r. deeper r Stuck) (row s (suc n) p) ≡ row s (suc (suc n)) p
+deeper_row : (s : Bool) (n p : ℕ) → map (λ r. deeper r stuck) (row s (suc n) p) ≡ row s (suc (suc n)) p
 unfolding deeper
 deeper_row s n p =
-    rw (deeper_cond (eqb p 1) (Cancel n), deeper_cond (eqb p 2) (Beta n), deeper_cond s (Name (suc n))) refl
+    rw (deeper_cond (eqb p 1) (Ok (Cancel n)), deeper_cond (eqb p 2) (Ok (Beta n)), deeper_cond s (Ok (Name (suc n)))) refl
 
-deeper_decide : (v : View) (n : ℕ) (m : Meaning) (p : ℕ) → deeper (decide v (suc n) m p) Stuck ≡ decide v (suc (suc n)) m p
+deeper_decide : (v : View) (n : ℕ) (m : Meaning) (p : ℕ) → deeper (decide v (suc n) m p) stuck ≡ decide v (suc (suc n)) m p
 unfolding deeper
 deeper_decide v n m p =
     let s = visible v m in
-    sym (get_or-map (λ r. deeper r Stuck) (row s (suc n) p) (index m) Stuck) ∙ ap (λ l. get_or l (index m) Stuck) (deeper_row s n p)
+    sym (get_or-map (λ r. deeper r stuck) (row s (suc n) p) (index m) stuck) ∙ ap (λ l. get_or l (index m) stuck) (deeper_row s n p)
 
 heads_frame : (f : Frame) (l : ℕ) (ws : List ℕ) → heads (frame_word f ∷ l ∷ ws) ≡ suc (heads ws)
 unfolding frame_word heads
 heads_frame (applied_to u) l ws = refl
 heads_frame cast_down l ws = refl
 
-frame_inside : (v : View) (f g : Frame) (l m : ℕ) (ws : List ℕ) {r : Redex}
+frame_inside : (v : View) (f g : Frame) (l m : ℕ) (ws : List ℕ) {r : Result Redex Rest}
     → r ≡ decided v (frame_word g ∷ m ∷ ws)
-    → deeper r Stuck ≡ decided v (frame_word f ∷ l ∷ frame_word g ∷ m ∷ ws)
+    → deeper r stuck ≡ decided v (frame_word f ∷ l ∷ frame_word g ∷ m ∷ ws)
 unfolding spelled
 frame_inside v f g l m ws h =
     rw
@@ -128,12 +138,12 @@ module _ (w : ℕ) (high : 7 ≤ w) {m : Meaning} (known : meaning w ≡ m) (k :
   leaf_inside v f l = rw (heads_frame f l (w ∷ 1 ∷ k), heads_leaf w high k, known) refl
 
 -- A name, by what stands for it.
-name_outermost : (o : Option Term) → at_name o ≡ cond (stands o) (Name 0) Stuck
+name_outermost : (o : Option Term) → at_name o ≡ cond (stands o) (Ok (Name 0)) stuck
 unfolding at_name
 name_outermost none = refl
 name_outermost (some e) = refl
 
-name_inside : (o : Option Term) → deeper (at_name o) Stuck ≡ cond (stands o) (Name 1) Stuck
+name_inside : (o : Option Term) → deeper (at_name o) stuck ≡ cond (stands o) (Ok (Name 1)) stuck
 unfolding at_name deeper
 name_inside none = refl
 name_inside (some e) = refl

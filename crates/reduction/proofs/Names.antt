@@ -4,7 +4,8 @@ use Prim.Native.Nat.{ℕ, ◌+◌, ◌*◌, ◌≤◌, ◌<◌}
 use mathlib.Core.Bool.{true≢false}
 use mathlib.Core.List.{List}
 use mathlib.Core.Option.{some}
-use mathlib.Core.Path.{◌≡◌, sym, ap, subst, ◌∙◌}
+use Rattle.std.specs.Prelude.{Ok, Some}
+use mathlib.Core.Path.{◌≡◌, refl, sym, ap, subst, ◌∙◌}
 use native.Mathlib.Omega.{arith}
 use lib.ListN.{length}
 use lib.Seq.{sets}
@@ -66,14 +67,14 @@ module _ {ws : List ℕ} {at i : ℕ} (p : Placed ws at (name i)) {book : List �
     defined same = subst (λ n. Defines d n book) (sym same) (held.each i d e)
 
     -- The redex that is located there is this name, and its body stands for it.
-    name_stands : (who : Reader) → locate (sight who B) t ≡ redex.Name at → sight who B i ≡ some d.body
+    name_stands : (who : Reader) → locate (sight who B) t ≡ Ok (redex.Name at) → sight who B i ≡ some d.body
     name_stands who there =
         let (j, x, shown, inside) = splits_at (sight who B) t there in
         let same : j ≡ i = omega (arith, lies_name (placed_lies p), lies_name (around_lies (inside.around x) keeps.coded)) in
         let shown_here : sight who B i ≡ some x = subst (λ n. sight who B n ≡ some x) same shown in
         shown_here ∙ sym (sight_bodies who B i x shown_here) ∙ bodies_entry B i d e
 
-    pub name_steps : (who : Reader) → locate (sight who B) t ≡ redex.Name at → step (sight who B) (name i) ≡ next by_unfolding d.body
+    pub name_steps : (who : Reader) → locate (sight who B) t ≡ Ok (redex.Name at) → step (sight who B) (name i) ≡ next by_unfolding d.body
     unfolding step unfolded
     name_steps who there = ap unfolded (name_stands who there)
 
@@ -82,10 +83,9 @@ pub puts_noted : (x : Term) {out after : List ℕ} {at end : ℕ}
     → end ≡ at + size x
     → 2 * end ≤ length out
     → after ≡ sets out (2 * at) (kept x)
-    → Puts (kept x) out at end after
-puts_noted x ends room wrote =
+    → Puts (kept x) out at (Some end) after
+puts_noted x {end = end} ends room wrote =
     record {
-      fits = λ h. (omega (arith, ends, kept_length x), wrote);
+      fits = λ h. (end, refl, omega (arith, ends, kept_length x), wrote);
       full = λ h. absurd (omega (arith, ends, room, kept_length x));
-      near = omega (arith, room);
     }

@@ -2,10 +2,11 @@
 -- of the whole, since the rest of the term stays as it is; and that takes more nodes than stand before the redex.
 use Prim.Native.Nat.{ℕ, ◌+◌, ◌*◌, ◌-◌, ◌≤◌, ◌<◌}
 use mathlib.Core.List.{List}
+use Rattle.std.specs.Prelude.{Option, Result, Err}
 use mathlib.Core.Path.{◌≡◌, refl, sym, ap, ◌∙◌, subst}
 use native.Mathlib.Omega.{arith}
 use lib.ListN.{length, take, drop}
-use Rattle.calculus.specs.Term.{Term, app, lam, castup, castdown, mu, name, size}
+use Rattle.calculus.specs.Term.{Term, app, lam, castup, castdown, mu, name, size, substitute}
 use Rattle.calculus.specs.Words.{Scoped, Named, Worded, longest}
 use Rattle.calculus.specs.Book.{View}
 use Rattle.calculus.specs.Step.{next, step}
@@ -16,12 +17,15 @@ use Rattle.term.proofs.Keeping.{kept_injective, lies_body, lies_first, lies_seco
 use Rattle.reduction.specs.declared.stepping.Kind.{Kind}
 use Rattle.reduction.specs.declared.stepping.Redex.TheVariants as redex
 use Rattle.reduction.specs.declared.stepping.Stepped.{Stepped}
-use Rattle.reduction.specs.declared.stepping.Stepped.TheVariants as stepped
+use Rattle.reduction.specs.declared.stepping.Halt.{Halt}
+use Rattle.reduction.specs.declared.stepping.Halt.TheVariants as halt
+use Rattle.reduction.specs.declared.stepping.Rest.{Rest}
+use Rattle.reduction.specs.declared.stepping.Rest.TheVariants as rest
 use Rattle.kept.specs.Writing.{Puts}
-use Rattle.reduction.specs.Stepping.{Around, Arrives, Located, Steps, kind_of, locate}
-use Rattle.reduction.proofs.Frames.{step_around, scoped_inside, named_inside, worded_inside}
+use Rattle.reduction.specs.Stepping.{Around, Arrives, Located, PutIn, Steps, halt_of, kind_of, locate}
+use Rattle.reduction.proofs.Frames.{step_around, named_inside, worded_inside}
 use Rattle.reduction.proofs.Redexes.{Inside, splits_at}
-use Rattle.reduction.proofs.Surrounding.{around_lies, around_length, around_within, same_difference}
+use Rattle.reduction.proofs.Surrounding.{around_lies, around_length, lacks_room}
 
 -- The words `ws` are those of a short term with `s` at the node `at` inside frames.
 pub record Placed (ws : List ℕ) (at : ℕ) (s : Term) : Type 0 where
@@ -69,9 +73,6 @@ module _ {ws : List ℕ} {at : ℕ} {s : Term} (p : Placed ws at s) where
   same : (t : Term) → ws ≡ kept t → Worded t → t ≡ p.term
   same t coded has = kept_injective t p.term has p.has_words (sym coded ∙ p.coded)
 
-  pub placed_scoped : (t : Term) → ws ≡ kept t → Worded t → (n : ℕ) → Scoped n t → Scoped n s
-  placed_scoped t coded has n h = scoped_inside (p.around s) n (subst (Scoped n) (same t coded has) h)
-
   pub placed_named : (t : Term) → ws ≡ kept t → Worded t → (n : ℕ) → Named n t → Named n s
   placed_named t coded has n h = named_inside (p.around s) n (subst (Named n) (same t coded has) h)
 
@@ -82,7 +83,7 @@ module _ {ws : List ℕ} {at : ℕ} {s : Term} (p : Placed ws at s) where
     -- At a view where the redex steps to `x`, the whole steps to what has arrived.
     pub reaches_at : (v : View)
         → step v s ≡ next (kind_of K) x
-        → {out after : List ℕ} {r : Stepped}
+        → {out after : List ℕ} {r : Result Stepped Halt}
         → Arrives K (p.put x) out r after
         → (t : Term)
         → ws ≡ kept t
@@ -92,16 +93,8 @@ module _ {ws : List ℕ} {at : ℕ} {s : Term} (p : Placed ws at s) where
     reaches_at v h {out} {after} {r} a t coded has =
         subst (λ n. Steps n out r after) (sym (ap (step v) (same t coded has) ∙ step_around v (p.around x) h)) (K, refl, a)
 
-    -- What takes more room than there is lacks it with all around it.
-    pub lacks_room : (out : List ℕ) → length out < 2 * (at + size x) → Arrives K (p.put x) out stepped.Full out
-    lacks_room out lacks =
-        record {
-          fits = λ all. absurd (omega (arith, around_within (p.around x) p.coded, same_difference (p.around x)));
-          full = λ _. (refl, refl);
-        }
-
     module _ (h : (v : View) → step v s ≡ next (kind_of K) x) where
-      pub reaches : {out after : List ℕ} {r : Stepped}
+      pub reaches : {out after : List ℕ} {r : Result Stepped Halt}
           → Arrives K (p.put x) out r after
           → (v : View) (t : Term)
           → ws ≡ kept t
@@ -114,17 +107,14 @@ module _ {ws : List ℕ} {at : ℕ} {s : Term} (p : Placed ws at s) where
           → (v : View) (t : Term)
           → ws ≡ kept t
           → Worded t
-          → Steps (step v t) out stepped.Full out
-      no_room out lacks = reaches (lacks_room out (omega arith))
+          → Steps (step v t) out (Err halt.Full) out
+      no_room out lacks = reaches (lacks_room (p.around x) p.coded out (omega arith))
 
 -- Where there is no redex, the term is a value or stuck.
-pub value_stays : (out : List ℕ) (v : View) (t : Term) → locate v t ≡ redex.Value → Steps (step v t) out stepped.Value out
+pub stays : (out : List ℕ) (v : View) (t : Term) (r : Rest) → locate v t ≡ Err r → Steps (step v t) out (Err (halt_of r)) out
 unfolding Steps
-value_stays out v t h = rw (splits_at v t h) (refl, refl)
-
-pub stuck_stays : (out : List ℕ) (v : View) (t : Term) → locate v t ≡ redex.Stuck → Steps (step v t) out stepped.Stuck out
-unfolding Steps
-stuck_stays out v t h = rw (splits_at v t h) (refl, refl)
+stays out v t rest.Value h = rw (splits_at v t h) (refl, refl)
+stays out v t rest.Stuck h = rw (splits_at v t h) (refl, refl)
 
 -- A term that lies in a slice has a node there; the words from its node to its end are its own.
 pub lies_node : {t : Term} {slice : List ℕ} {n : ℕ} → Lies t slice n → 2 * n + 1 < length slice
@@ -139,7 +129,7 @@ lies_part {t} {slice} {n} {end} l ends =
     ap (λ k. take k (drop (2 * n) slice)) count ∙ lies_taken l
 
 -- Copied, they are the kept words of the term.
-pub puts_part : {t : Term} {slice out after : List ℕ} {n end at r : ℕ}
+pub puts_part : {t : Term} {slice out after : List ℕ} {n end at : ℕ} {r : Option ℕ}
     → Lies t slice n
     → end ≡ n + size t
     → Puts (take (2 * end - 2 * n) (drop (2 * n) slice)) out at r after
@@ -172,3 +162,52 @@ module _ {slice : List ℕ} {at : ℕ} where
 
   pub cast_body : {a e : Term} {n : ℕ} → Lies (castdown (castup a e)) slice at → n ≡ size a → Lies e slice (at + 2 + n)
   cast_body {n = n} l h = to (at + 2 + n) (omega arith) (lies_second two_castup (lies_body l))
+
+-- The two rules that put a part of the redex in for a variable.
+module _ {slice : List ℕ} {at : ℕ} where
+  pub beta_puts : {a e u : Term} (p : Placed slice at (app (lam a e) u)) {n m : ℕ}
+      → n ≡ size a
+      → m ≡ size e
+      → PutIn slice at (at + 2 + n) (at + 2 + n + m) (p.put (substitute 0 u e))
+  unfolding Scoped Worded size
+  beta_puts {a} {e} {u} p h g =
+      record {
+        term = p.term;
+        redex = app (lam a e) u;
+        inner = e;
+        outer = u;
+        coded = p.coded;
+        has_words = p.has_words;
+        short = p.short;
+        around = p.around (substitute 0 u e);
+        inner_lies = function_body (placed_lies p) h;
+        inner_scoped = λ n s. s.0.1;
+        inner_worded = (placed_worded p).0.1;
+        outer_lies = argument (placed_lies p) h g;
+        outer_ends = omega (arith, h, g);
+        outer_scoped = λ n s. s.1;
+        outer_worded = (placed_worded p).1;
+      }
+
+  pub unfold_puts : {a e : Term} (p : Placed slice at (mu a e)) {n : ℕ}
+      → n ≡ size a
+      → PutIn slice at (at + 1 + n) at (p.put (substitute 0 (mu a e) e))
+  unfolding Scoped Worded
+  unfold_puts {a} {e} p h =
+      record {
+        term = p.term;
+        redex = mu a e;
+        inner = e;
+        outer = mu a e;
+        coded = p.coded;
+        has_words = p.has_words;
+        short = p.short;
+        around = p.around (substitute 0 (mu a e) e);
+        inner_lies = recursion_body (placed_lies p) h;
+        inner_scoped = λ n s. s.1;
+        inner_worded = (placed_worded p).1;
+        outer_lies = placed_lies p;
+        outer_ends = refl;
+        outer_scoped = λ n s. s;
+        outer_worded = placed_worded p;
+      }

@@ -3,13 +3,16 @@
 -- a redex where the view shows something for it.
 use Prim.Native.Nat.{ℕ, suc}
 use mathlib.Core.Option.{Option, none, some}
+use Rattle.std.specs.Prelude.{Result, Ok, Err}
 use mathlib.Core.Path.{◌≡◌, refl, ap, subst, ◌∙◌}
 use Rattle.calculus.specs.Term.{Term, var, star, app, lam, pi, castup, castdown, mu, name}
 use Rattle.calculus.specs.Book.{View}
 use Rattle.calculus.specs.Step.{value, stuck, under, applied, cancelled, unfolded, step}
 use Rattle.reduction.specs.Stepping.{Around, here, deeper, at_application, at_castdown, at_name, locate}
 use Rattle.reduction.specs.declared.stepping.Redex.{Redex}
-use Rattle.reduction.specs.declared.stepping.Redex.TheVariants.{Value, Stuck, Beta, Cancel, Unfold, Name}
+use Rattle.reduction.specs.declared.stepping.Redex.TheVariants.{Beta, Cancel, Unfold, Name}
+use Rattle.reduction.specs.declared.stepping.Rest.{Rest}
+use Rattle.reduction.specs.declared.stepping.Rest.TheVariants.{Value, Stuck}
 use Rattle.reduction.proofs.Frames.{Frame, applied_to, cast_down, fill, steps_itself, step_fill, around_fill}
 
 -- The part `s` of `t` stands at the node `n` inside frames: whatever is put in its place, `t` becomes a term with it there.
@@ -17,13 +20,13 @@ pub record Inside (t : Term) (n : ℕ) (s : Term) : Type 0 where
   pub put : Term → Term
   pub around : (x : Term) → Around t n s x (put x)
 
-abbrev pub Splits : View → Term → Redex → Type 0
-Splits v t Value = step v t ≡ value
-Splits v t Stuck = step v t ≡ stuck
-Splits v t (Beta n) = (a : Term) × (e : Term) × (u : Term) × Inside t n (app (lam a e) u)
-Splits v t (Cancel n) = (a : Term) × (e : Term) × Inside t n (castdown (castup a e))
-Splits v t (Unfold n) = (a : Term) × (e : Term) × Inside t n (mu a e)
-Splits v t (Name n) = (i : ℕ) × (e : Term) × (v i ≡ some e) × Inside t n (name i)
+abbrev pub Splits : View → Term → Result Redex Rest → Type 0
+Splits v t (Err Value) = step v t ≡ value
+Splits v t (Err Stuck) = step v t ≡ stuck
+Splits v t (Ok (Beta n)) = (a : Term) × (e : Term) × (u : Term) × Inside t n (app (lam a e) u)
+Splits v t (Ok (Cancel n)) = (a : Term) × (e : Term) × Inside t n (castdown (castup a e))
+Splits v t (Ok (Unfold n)) = (a : Term) × (e : Term) × Inside t n (mu a e)
+Splits v t (Ok (Name n)) = (i : ℕ) × (e : Term) × (v i ≡ some e) × Inside t n (name i)
 
 outermost : (t : Term) → Inside t 0 t
 outermost t = record { put = λ x. x; around = λ x. here }
@@ -32,7 +35,7 @@ one_further : (f : Frame) {t s : Term} {n : ℕ} → Inside t n s → Inside (fi
 one_further f i = record { put = λ x. fill f (i.put x); around = λ x. around_fill f (i.around x) }
 
 -- What `locate` says of the node itself.
-unfoldable pub at_node : Frame → Term → Redex
+unfoldable pub at_node : Frame → Term → Result Redex Rest
 at_node (applied_to u) t = at_application t
 at_node cast_down t = at_castdown t
 
@@ -57,14 +60,14 @@ node_splits v cast_down (castdown e) h = h
 node_splits v cast_down (mu a e) h = h
 node_splits v cast_down (name i) h = h
 
-fill_splits : (v : View) (f : Frame) (t : Term) (r : Redex) → Splits v t r → Splits v (fill f t) (deeper r (at_node f t))
+fill_splits : (v : View) (f : Frame) (t : Term) (r : Result Redex Rest) → Splits v t r → Splits v (fill f t) (deeper r (at_node f t))
 unfolding deeper under
-fill_splits v f t Value h = node_splits v f t (step_fill v f t ∙ ap (under (fill f) (steps_itself f t)) h)
-fill_splits v f t Stuck h = node_splits v f t (step_fill v f t ∙ ap (under (fill f) (steps_itself f t)) h)
-fill_splits v f t (Beta n) h = (h.0, h.1, h.2, one_further f h.3)
-fill_splits v f t (Cancel n) h = (h.0, h.1, one_further f h.2)
-fill_splits v f t (Unfold n) h = (h.0, h.1, one_further f h.2)
-fill_splits v f t (Name n) h = (h.0, h.1, h.2, one_further f h.3)
+fill_splits v f t (Err Value) h = node_splits v f t (step_fill v f t ∙ ap (under (fill f) (steps_itself f t)) h)
+fill_splits v f t (Err Stuck) h = node_splits v f t (step_fill v f t ∙ ap (under (fill f) (steps_itself f t)) h)
+fill_splits v f t (Ok (Beta n)) h = (h.0, h.1, h.2, one_further f h.3)
+fill_splits v f t (Ok (Cancel n)) h = (h.0, h.1, one_further f h.2)
+fill_splits v f t (Ok (Unfold n)) h = (h.0, h.1, one_further f h.2)
+fill_splits v f t (Ok (Name n)) h = (h.0, h.1, h.2, one_further f h.3)
 
 name_splits : (v : View) (i : ℕ) (o : Option Term) → v i ≡ o → Splits v (name i) (at_name o)
 unfolding at_name step unfolded
@@ -83,5 +86,5 @@ splits v (castdown e) = fill_splits v cast_down e (locate v e) (splits v e)
 splits v (mu a e) = (a, e, outermost (mu a e))
 splits v (name i) = name_splits v i (v i) refl
 
-pub splits_at : (v : View) (t : Term) {r : Redex} → locate v t ≡ r → Splits v t r
+pub splits_at : (v : View) (t : Term) {r : Result Redex Rest} → locate v t ≡ r → Splits v t r
 splits_at v t there = subst (Splits v t) there (splits v t)

@@ -1,50 +1,51 @@
--- S_BETA and S_MU put a term in for the outermost variable of a body, and both lie in the redex. The state is short and its
--- variables are few, so both are as substitution asks.
-use Prim.Native.Nat.{ℕ, suc, ◌+◌, ◌*◌, ◌-◌, ◌≤◌}
-use mathlib.Core.Bool.{Bool}
-use mathlib.Core.List.{List}
-use mathlib.Core.Path.{◌≡◌}
-use native.Mathlib.Omega.{arith}
-use lib.ListN.{take, drop}
+-- S_BETA and S_MU put a part of the redex in for the outermost variable of another. The state is short and its variables are few, so
+-- both are as substitution asks.
+use Rattle.std.proofs.Common.{ℕ, ◌+◌, ◌*◌, ◌-◌, ◌≤◌, ◌≡◌, sym, ◌∙◌, subst, Bool, List, take, drop, arith}
 use Rattle.calculus.specs.Term.{Term, size}
-use Rattle.calculus.specs.Words.{Scoped, Worded, longest, deepest}
+use Rattle.calculus.specs.Words.{Scoped, longest, deepest}
 use Rattle.calculus.proofs.Coding.{worded}
 use Rattle.term.specs.Kept.{Lies}
-use Rattle.term.proofs.Keeping.{lies_within}
+use Rattle.term.proofs.Keeping.{kept_injective, lies_within}
 use Rattle.kept.specs.Rewriting.{Argument, Subject}
-use Rattle.reduction.specs.Stepping.{Within}
-use Rattle.reduction.proofs.Placing.{Placed, placed_short, placed_scoped, lies_part}
+use Rattle.reduction.specs.Stepping.{PutIn, Within}
+use Rattle.reduction.proofs.Frames.{scoped_inside}
+use Rattle.reduction.proofs.Surrounding.{around_length}
+use Rattle.reduction.proofs.Placing.{lies_part}
 
--- The indices of a state have words.
-within_worded : {ws : List ℕ} {closed : Bool} (h : Within ws closed) → Worded h.term
-within_worded h = worded deepest h.term h.scoped (omega (arith, h.short))
+module _ {ws : List ℕ} {at body argument : ℕ} {y : Term} {closed : Bool} (p : PutIn ws at body argument y)
+    (held : Within ws closed) where
+  -- The indices of a state have words.
+  same : held.term ≡ p.term
+  same =
+      kept_injective held.term p.term (worded deepest held.term held.scoped (omega (arith, held.short))) p.has_words
+      (sym held.coded ∙ p.coded)
 
-module _ {ws : List ℕ} {at : ℕ} {s : Term} {closed : Bool} (p : Placed ws at s) (held : Within ws closed) where
+  redex_scoped : (n : ℕ) → Scoped n held.term → Scoped n p.redex
+  redex_scoped n h = scoped_inside p.around n (subst (Scoped n) same h)
+
   near : {t : Term} {n : ℕ} → Lies t ws n → n + size t ≤ longest
-  near l = omega (arith, lies_within l, placed_short p)
+  near l = omega (arith, lies_within l, around_length p.around p.coded, p.short)
 
-  pub body_fits : {e : Term} {n : ℕ}
-      → Lies e ws n
-      → ((m : ℕ) → Scoped m s → Scoped (suc m) e)
-      → (e : Term) × Subject e ws n 0 × (n + size e ≤ longest)
-  body_fits {e} l inside =
-      let scoped = inside deepest (placed_scoped p held.term held.coded (within_worded held) deepest held.scoped) in
-      (e, record { lies = l; scoped = scoped; near = omega (arith, near l) }, near l)
+  pub body_fits : (e : Term) × Subject e ws body 0 × (body + size e ≤ longest)
+  body_fits =
+      let scoped = p.inner_scoped deepest (redex_scoped deepest held.scoped) in (
+        p.inner,
+        record { lies = p.inner_lies; scoped = scoped; near = omega (arith, near p.inner_lies) },
+        near p.inner_lies,
+      )
 
-  pub argument_fits : {u : Term} {n end : ℕ}
-      → Lies u ws n
-      → end ≡ n + size u
-      → ((m : ℕ) → Scoped m s → Scoped m u)
-      → (u : Term) × Argument u (take (2 * end - 2 * n) (drop (2 * n) ws)) closed
-  argument_fits {u} l ends inside = (
-    u,
+  pub argument_fits : {end : ℕ}
+      → end ≡ at + size p.redex
+      → (u : Term) × Argument u (take (2 * end - 2 * argument) (drop (2 * argument) ws)) closed
+  argument_fits ends = (
+    p.outer,
     record {
-      coded = lies_part l ends;
+      coded = lies_part p.outer_lies (ends ∙ p.outer_ends);
       fits =
           record {
-            short = omega (arith, near l);
-            scoped = inside deepest (placed_scoped p held.term held.coded (within_worded held) deepest held.scoped);
+            short = omega (arith, near p.outer_lies);
+            scoped = p.outer_scoped deepest (redex_scoped deepest held.scoped);
           };
-      shut = λ is-closed. inside 0 (placed_scoped p held.term held.coded (within_worded held) 0 (held.shut is-closed));
+      shut = λ is-closed. p.outer_scoped 0 (redex_scoped 0 (held.shut is-closed));
     },
   )

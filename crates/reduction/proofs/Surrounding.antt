@@ -3,7 +3,10 @@
 -- the two parts, which is that of the two wholes. So the new whole is in a slice once the new part, what stands behind, and the
 -- frames' nodes are stored, in this order; and where one of them lacks room, so does the whole.
 use Prim.Native.Nat.{ℕ, ◌+◌, ◌-◌, ◌*◌, ◌/◌, ◌≤◌, ◌<◌}
-use mathlib.Core.Bool.{true≢false}
+use Rattle.std.specs.Prelude.{Option, None, Some, Result, Ok, Err}
+use Rattle.std.specs.Option.{ok_or}
+use Rattle.std.specs.Result.{IsErrAnd}
+use Rattle.std.proofs.lemmas.Result.{err_from_is_err_and}
 use mathlib.Core.List.{List, [], ◌∷◌, ◌++◌, append_assoc}
 use mathlib.Core.Path.{◌≡◌, refl, sym, ap, ap₂, ◌∙◌, subst}
 use native.Mathlib.Omega.{arith}
@@ -15,10 +18,10 @@ use Rattle.calculus.proofs.Stores.{sets_append}
 use Rattle.term.specs.Kept.{keep, kept, Lies}
 use Rattle.term.proofs.Keeping.{keep_append, kept_length, lies_within}
 use Rattle.term.proofs.Finding.{from_on}
-use Rattle.kept.specs.declared.copying.Room.{Room}
-use Rattle.kept.specs.declared.copying.Room.TheVariants as room
 use Rattle.reduction.specs.declared.stepping.Kind.{Kind}
-use Rattle.reduction.specs.declared.stepping.Stepped.TheVariants as stepped
+use Rattle.reduction.specs.declared.stepping.Halt.{Halt}
+use Rattle.reduction.specs.declared.stepping.Halt.TheVariants as halt
+use Rattle.reduction.specs.declared.stepping.Stepped.{Stepped}
 use Rattle.kept.specs.Writing.{Puts, Writes}
 use Rattle.reduction.specs.Stepping.{Around, here, in_function, in_body, Arrives, moved, Movable}
 use Rattle.kept.proofs.Composed.{put_place, put_length}
@@ -129,88 +132,98 @@ module _ {t s x y : Term} {n : ℕ} (r : Around t n s x y) {state : List ℕ} (c
   pub around_movable : (old new : ℕ) → new + size s ≡ old + size x → size t ≤ longest → Movable old new (take (2 * n) state)
   around_movable old new h short = rw front (before_movable old new h r short)
 
-  module _ {first out : List ℕ} {end : ℕ} (p : Puts (kept x) first n end out) where
-    enough : 2 * size y ≤ length first → 2 * n + length (kept x) ≤ length first
-    enough h = omega (arith, around_within, same_difference r, kept_length x)
+  -- What takes more room than there is lacks it with all around it.
+  pub lacks_room : {K : Kind} (out : List ℕ) → length out < 2 * (n + size x) → Arrives K y out (Err halt.Full) out
+  lacks_room out lacks =
+      record { fits = λ all. absurd (omega (arith, around_within, same_difference r)); full = λ _. (refl, refl) }
 
-    -- The new part does not fit.
-    pub part_lacks : {K : Kind} → length out < 2 * end → Arrives K y first stepped.Full out
-    part_lacks h =
+  -- The new part does not fit.
+  pub part_lacks : {first out : List ℕ} {K : Kind} → Puts (kept x) first n None out → Arrives K y first (Err halt.Full) out
+  part_lacks {first} {out} p =
+      let never : 2 * n + length (kept x) ≤ length first → ⊥ = λ h. (let (end, is, place, stored) = p.fits h in cc is) in
+      record {
+        fits = λ all. absurd (never (omega (arith, all, around_within, same_difference r, kept_length x)));
+        full = λ _. (refl, put_length p);
+      }
+
+  module _ {first out : List ℕ} {end : ℕ} (p : Puts (kept x) first n (Some end) out) {old : ℕ} (ends : old ≡ n + size s)
+      {c : Option ℕ} {mid : List ℕ} (w : Writes (take (length state - 2 * old) (drop (2 * old) state)) out (2 * end) c mid) where
+    difference : end + size s ≡ old + size x
+    difference = omega (arith, (put_place p).0, kept_length x)
+
+    whole : kept y ≡ moved old end (before r) ++ (kept x ++ behind r [])
+    unfolding kept
+    whole = keep_new old end difference r [] ∙ ap (λ l. moved old end (before r) ++ l) (keep_append x (behind r []))
+
+    leading : length (moved old end (before r)) ≡ 2 * n
+    leading = moved_length old end (before r) ∙ before_length r
+
+    count : 2 * end + length (behind r []) ≡ 2 * size y
+    count =
+        omega (
+          arith,
+          kept_length y,
+          ap length whole,
+          length-append (moved old end (before r)) (kept x ++ behind r []),
+          length-append (kept x) (behind r []),
+          leading,
+          (put_place p).0,
+        )
+
+    wrote : Writes (behind r []) out (2 * end) c mid
+    wrote =
+        let place : 2 * old ≡ 2 * (n + size s) = ap (λ k. 2 * k) ends in
+        subst (λ e. Writes e out (2 * end) c mid) (from_on state (2 * old) ∙ ap (λ k. drop k state) place ∙ rest) w
+
+    -- What stands behind does not fit.
+    pub rest_lacks : {K : Kind} → c ≡ None → Arrives K y first (Err halt.Full) mid
+    rest_lacks none =
+        let never : 2 * end + length (behind r []) ≤ length out → ⊥ = λ h. cc (none, (wrote.fits h).0) in
+        let lacks : length out < 2 * end + length (behind r []) = omega arith in
         let same = put_length p in
-        record { fits = λ all. absurd (omega (arith, same, (p.fits (enough all)).0, enough all)); full = λ _. (refl, same) }
+        record {
+          fits = λ all. absurd (omega (arith, count, same, lacks));
+          full = λ _. (refl, ap length (wrote.full lacks).1 ∙ same);
+        }
 
-    module _ (inside : 2 * end ≤ length out) {old : ℕ} (ends : old ≡ n + size s) {c : Room} {mid : List ℕ}
-        (w : Writes (take (length state - 2 * old) (drop (2 * old) state)) out (2 * end) c mid) where
-      placed : (2 * end ≡ 2 * n + length (kept x)) × (out ≡ sets first (2 * n) (kept x))
-      placed = put_place p (omega (arith, put_length p))
+    -- All of it fits.
+    module _ {last : ℕ} (to : c ≡ Some last) where
+      fitted : 2 * end + length (behind r []) ≤ length out
+      fitted =
+          let never : length out < 2 * end + length (behind r []) → ⊥ = λ h. cc (to, (wrote.full h).0) in
+          omega arith
 
-      difference : end + size s ≡ old + size x
-      difference = omega (arith, placed.0, kept_length x)
+      stored : mid ≡ sets first (2 * n) (kept x ++ behind r [])
+      stored =
+          (wrote.fits fitted).1
+          ∙ ap₂ (λ l k. sets l k (behind r [])) (put_place p).1 (put_place p).0
+          ∙ sym (sets_append first (2 * n) (kept x) (behind r []))
 
-      whole : kept y ≡ moved old end (before r) ++ (kept x ++ behind r [])
-      unfolding kept
-      whole = keep_new old end difference r [] ∙ ap (λ l. moved old end (before r) ++ l) (keep_append x (behind r []))
+      pub rest_length : length mid ≡ length first
+      rest_length = ap length stored ∙ length-sets first (2 * n) (kept x ++ behind r [])
 
-      leading : length (moved old end (before r)) ≡ 2 * n
-      leading = moved_length old end (before r) ∙ before_length r
-
-      count : 2 * end + length (behind r []) ≡ 2 * size y
-      count =
-          omega (
-            arith,
-            kept_length y,
-            ap length whole,
-            length-append (moved old end (before r)) (kept x ++ behind r []),
-            length-append (kept x) (behind r []),
-            leading,
-            placed.0,
-          )
-
-      wrote : Writes (behind r []) out (2 * end) c mid
-      wrote =
-          let place : 2 * old ≡ 2 * (n + size s) = ap (λ k. 2 * k) ends in
-          subst (λ e. Writes e out (2 * end) c mid) (from_on state (2 * old) ∙ ap (λ k. drop k state) place ∙ rest) w
-
-      -- What stands behind does not fit.
-      pub rest_lacks : {K : Kind} → c ≡ room.Full → Arrives K y first stepped.Full mid
-      rest_lacks none =
-          let never : 2 * end + length (behind r []) ≤ length out → ⊥ = λ h. true≢false (cc (none, (wrote.fits h).0)) in
-          let lacks : length out < 2 * end + length (behind r []) = omega arith in
-          let same = put_length p in
+      pub whole_arrives : {K : Kind} {after : List ℕ}
+          → after ≡ sets mid 0 (moved old end (take (2 * n) state))
+          → Arrives K y first (Ok (record { kind = K; length = last / 2 })) after
+      whole_arrives {K} {after} led =
+          let place : last ≡ 2 * end + length (behind r []) = cc (to, (wrote.fits fitted).0) in
+          let half : last / 2 ≡ size y = omega (arith, place, count) in
           record {
-            fits = λ all. absurd (omega (arith, count, same, lacks));
-            full = λ _. (refl, ap length (wrote.full lacks).1 ∙ same);
+            fits = λ _. (ap (λ n. Ok (record { kind = K; length = n })) half, led ∙ all);
+            full = λ h. absurd (omega (arith, fitted, count, put_length p));
           }
+        where
+          all : sets mid 0 (moved old end (take (2 * n) state)) ≡ sets first 0 (kept y)
+          all =
+              ap₂ (λ l e. sets l 0 (moved old end e)) stored front
+              ∙ sets_front first (moved old end (before r)) (kept x ++ behind r []) (2 * n) leading
+              (omega (arith, fitted, (put_place p).0, put_length p, length-append (kept x) (behind r [])))
+              ∙ ap (sets first 0) (sym whole)
 
-      -- All of it fits.
-      module _ {last : ℕ} (to : c ≡ room.To last) where
-        fitted : 2 * end + length (behind r []) ≤ length out
-        fitted =
-            let never : length out < 2 * end + length (behind r []) → ⊥ = λ h. true≢false (cc (to, (wrote.full h).0)) in
-            omega arith
-
-        stored : mid ≡ sets first (2 * n) (kept x ++ behind r [])
-        stored =
-            (wrote.fits fitted).1
-            ∙ ap₂ (λ l k. sets l k (behind r [])) placed.1 placed.0
-            ∙ sym (sets_append first (2 * n) (kept x) (behind r []))
-
-        pub rest_length : length mid ≡ length first
-        rest_length = ap length stored ∙ length-sets first (2 * n) (kept x ++ behind r [])
-
-        pub whole_arrives : {K : Kind} {after : List ℕ}
-            → after ≡ sets mid 0 (moved old end (take (2 * n) state))
-            → Arrives K y first (stepped.To K (last / 2)) after
-        whole_arrives {K} {after} led =
-            let place : last ≡ 2 * end + length (behind r []) = cc (to, (wrote.fits fitted).0) in
-            record {
-              fits = λ _. (ap (stepped.To K) (omega (arith, place, count)), led ∙ all);
-              full = λ h. absurd (omega (arith, fitted, count, put_length p));
-            }
-          where
-            all : sets mid 0 (moved old end (take (2 * n) state)) ≡ sets first 0 (kept y)
-            all =
-                ap₂ (λ l e. sets l 0 (moved old end e)) stored front
-                ∙ sets_front first (moved old end (before r)) (kept x ++ behind r []) (2 * n) leading
-                (omega (arith, fitted, placed.0, put_length p, length-append (kept x) (behind r [])))
-                ∙ ap (sets first 0) (sym whole)
+-- At the exit of a `?` on what answers a place, where it answers none.
+pub at_exit : {A : Type 0} (o : Option A) (r : Result Stepped Halt) {e : Halt}
+    → Err e ≡ ok_or o halt.Full
+    → IsErrAnd r (λ h. h ≡ e)
+    → (o ≡ None) × (r ≡ Err halt.Full)
+at_exit None r h told = let (y, is, same) = err_from_is_err_and r told in (refl, cc (h, is, same))
+at_exit (Some a) r h told = absurd (cc h)

@@ -8,25 +8,20 @@ use native.Mathlib.Decide.{dec_le}
 use native.Mathlib.Omega.{arith}
 use lib.ListN.{length, take, length-take}
 use lib.Seq.{take_all}
-use Rattle.calculus.specs.Term.{Term}
-use Rattle.calculus.specs.Answer.{Answer, refused, ◌>>=◌, ◌>>◌, require, number, length_not_allowed}
-use Rattle.calculus.specs.Run.{Ended}
-use Rattle.calculus.specs.Outcomes.{begun}
+use Rattle.calculus.specs.Answer.{refused, ◌>>=◌, ◌>>◌, require, number, length_not_allowed}
 use Rattle.text.specs.Pairs.{pairs, allowed}
 use Rattle.text.proofs.Pairs.{over}
 use Rattle.report.specs.Report.{judged, outcome, told, printed, report_of, Enough}
-use Rattle.report.specs.Shown.{Tells}
+use Rattle.report.proofs.Judging.{refusal}
 
 pub not_admitted : (bs : List ℕ) → allowed bs ≡ false → outcome bs ≡ refused length_not_allowed 0
 unfolding outcome require ◌>>◌ ◌>>=◌
 not_admitted bs e = rw e refl
 
--- The findings of such a refusal.
-pub not_allowed : (x : Answer (Term × Ended)) (O S : List ℕ)
-    → x ≡ refused length_not_allowed 0
-    → Tells (told x) (record { answer = 4; place = 0; length = 0; end = 0; steps = 0; count = 0 }) O O S S
-unfolding told number begun
-not_allowed x O S e = rw e (record { lines = refl; output = refl; state = refl })
+-- The lines of such a refusal.
+pub not_allowed : (bs : List ℕ) → allowed bs ≡ false → refusal 4 0 ≡ told (outcome bs)
+unfolding told number
+not_allowed bs e = rw (not_admitted bs e) refl
 
 pub admitted : (bs : List ℕ) → allowed bs ≡ true → outcome bs ≡ judged (pairs bs)
 unfolding outcome require ◌>>◌ ◌>>=◌

@@ -22,8 +22,6 @@ use Rattle.feguavy.specs.Numbers.{checked_numbers, NumberedCheck, ran_numbers, N
 use Rattle.feguavy.specs.declared.CheckedNumbers.{CheckedNumbers}
 use Rattle.feguavy.specs.declared.RanNumbers.{RanNumbers}
 use Rattle.report.specs.Report.{limit, budget, allowance, type_of, run_of, judged, told, Lines}
-use Rattle.report.specs.Shown.{shown, Tells}
-use Rattle.report.specs.declared.Findings.{Findings}
 
 -- A slice that begins with the words of a term: they are as many as the term is long, and a walk goes to their end.
 begun_words : (t : Term) (slice : List ℕ) → take (size t) (begun (words t) slice) ≡ words t
@@ -42,12 +40,12 @@ length_cleared n slice =
     let zeros : List ℕ = replicate n 0 in
     omega (arith, length-append zeros (drop (length zeros) slice), length-drop (length zeros) slice)
 
--- The findings of a refusal, and those of a term with its type and its run.
-abbrev pub refusal : ℕ → ℕ → Findings
-refusal answer place = record { answer = answer; place = place; length = 0; end = 0; steps = 0; count = 0 }
+-- The lines of a refusal, and those of a term with its type and its run.
+abbrev pub refusal : ℕ → ℕ → Lines
+refusal answer place = record { answer = answer; place = place; type = []; end = 0; steps = 0; state = [] }
 
-abbrev pub found : CheckedNumbers → RanNumbers → ℕ → Findings
-found n m k = record { answer = 0; place = 0; length = n.length; end = m.end; steps = m.steps; count = k }
+abbrev pub found : List ℕ → ℕ → ℕ → List ℕ → Lines
+found type end steps state = record { answer = 0; place = 0; type = type; end = end; steps = steps; state = state }
 
 -- The verdict on a term, and how it is then judged.
 data Judges (ws : List ℕ) : Answer Term → Answer (Term × Ended) → Type 0 where
@@ -72,16 +70,13 @@ judges : (ws : List ℕ) → Judges ws (read ws >>= type_of) (judged ws)
 unfolding judged
 judges ws = judges_read ws (read ws) refl
 
-same_lines : {type type' state state' : List ℕ} {end end' steps steps' : ℕ}
+found_same : {type type' state state' : List ℕ} {end end' steps steps' : ℕ}
     → type ≡ type'
     → end ≡ end'
     → steps ≡ steps'
     → state ≡ state'
-    → ◌≡◌
-    {A = Lines}
-    (record { answer = 0; place = 0; type = type; end = end; steps = steps; state = state })
-    (record { answer = 0; place = 0; type = type'; end = end'; steps = steps'; state = state' })
-same_lines a b c d = cc
+    → found type end steps state ≡ found type' end' steps' state'
+found_same a b c d = cc
 
 -- A call of a check with room enough.
 module _ (ws W O : List ℕ) (room : check_room limit ≤ length W) (space : limit ≤ length O) where
@@ -90,24 +85,19 @@ module _ (ws W O : List ℕ) (room : check_room limit ≤ length W) (space : lim
   checks = rw (le_leb (check_room limit) (length W) room, le_leb limit (length O) space) refl
 
   -- Refused, it is told as it is answered.
-  pub refused_tells : (n : CheckedNumbers) (S : List ℕ) {W₁ O₁ : List ℕ}
+  pub refused_tells : (n : CheckedNumbers) {W₁ O₁ : List ℕ}
       → NumberedCheck (check ws limit W O) n W₁ O₁
       → (n.answer ≡ 0 → ⊥)
-      → Tells (told (judged ws)) (refusal n.answer n.place) O O₁ S S
-  unfolding checked checked_numbers told begun
-  refused_tells n S {W₁} {O₁} h some = on (judges ws) (rw checks at h)
+      → refusal n.answer n.place ≡ told (judged ws)
+  unfolding checked checked_numbers told
+  refused_tells n {W₁} {O₁} h some = on (judges ws) (rw checks at h)
     where
       on : {x : Answer Term} {y : Answer (Term × Ended)}
           → Judges ws x y
           → NumberedCheck (checked (check_room limit) W O x) n W₁ O₁
-          → Tells (told y) (refusal n.answer n.place) O O₁ S S
+          → refusal n.answer n.place ≡ told y
       on (typed e) k = absurd (some (ap (λ x. x.answer) k.numbers))
-      on untyped k =
-          record {
-            lines = ap (λ (x : CheckedNumbers). shown (refusal x.answer x.place) [] []) k.numbers;
-            output = k.output;
-            state = refl;
-          }
+      on untyped k = ap (λ (x : CheckedNumbers). refusal x.answer x.place) k.numbers
 
   -- Accepted, it is told with the run that follows.
   pub accepted_tells : (n : CheckedNumbers) (m : RanNumbers) (k : ℕ) (S : List ℕ) {W₁ O₁ W₂ S₂ : List ℕ}
@@ -116,14 +106,14 @@ module _ (ws W O : List ℕ) (room : check_room limit ≤ length W) (space : lim
       → n.answer ≡ 0
       → NumberedRun (run ws budget 0 (alone allowance) W₁ S) m W₂ S₂
       → k ≡ span S₂ 1
-      → Tells (told (judged ws)) (found n m k) O O₁ S S₂
+      → found (take n.length O₁) m.end m.steps (take k S₂) ≡ told (judged ws)
   unfolding checked checked_numbers told course require ◌>>◌ ◌>>=◌ run_by ran ran_numbers
   accepted_tells n m k S {W₁} {O₁} {W₂} {S₂} free h none g e = on (judges ws) (rw checks at h)
     where
       on : {x : Answer Term} {y : Answer (Term × Ended)}
           → Judges ws x y
           → NumberedCheck (checked (check_room limit) W O x) n W₁ O₁
-          → Tells (told y) (found n m k) O O₁ S S₂
+          → found (take n.length O₁) m.end m.steps (take k S₂) ≡ told y
       on (typed {t} {τ} d) c =
           let x : Ended = run_of t in
           let clear : run_room ≤ length W₁ = omega (arith, ap length c.work, length_cleared (check_room limit) W) in
@@ -133,9 +123,5 @@ module _ (ws W O : List ℕ) (room : check_room limit ≤ length W) (space : lim
           let count : k ≡ size x.state = e ∙ ap (λ l. span l 1) r.state ∙ begun_span x.state S in
           let type : take n.length O₁ ≡ words τ = ap₂ take (ap (λ y. y.length) c.numbers) c.output ∙ begun_words τ O in
           let state : take k S₂ ≡ words x.state = ap₂ take count r.state ∙ begun_words x.state S in
-          record {
-            lines = same_lines type (ap (λ y. y.end) r.numbers) (ap (λ y. y.steps) r.numbers) state;
-            output = c.output;
-            state = r.state;
-          }
+          found_same type (ap (λ y. y.end) r.numbers) (ap (λ y. y.steps) r.numbers) state
       on (untyped {r} {p}) c = absurd (number_not_zero r (sym (ap (λ x. x.answer) c.numbers) ∙ none))

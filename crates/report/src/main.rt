@@ -1,141 +1,177 @@
 // The report program of document 01: reads a term as words of two bytes, low byte first, and prints its type and its run.
 #![tactic(auto)]
 
-ghost use Rattle.std.specs.Prelude.{◌+◌, ◌*◌, ◌≤◌, [], ◌∷◌, ◌++◌, ◌≡◌, length};
-ghost use Rattle.std.proofs.lemmas.List.Edits.{sets};
-ghost use Rattle.text.specs.Appending.{Appends};
+ghost use Rattle.std.specs.Prelude.{◌*◌, ◌≤◌, [], ◌∷◌, ◌++◌, ◌≡◌, length, take};
+ghost use Rattle.text.specs.Appending.{appended};
 ghost use Rattle.text.specs.Texts.{decimal, list};
 ghost use Rattle.report.specs.Report.{judged, outcome, told, printed, report_of};
-ghost use Rattle.report.specs.Shown.{shown, Tells, Prints};
 
 use evaluation::Desk;
 use feguavy::{feguavy_check, feguavy_run};
+use std::marker::Model;
 use streams::Devices;
 use term::walk::span;
+use text::page::Page;
 use text::{front, words};
 
-// What is printed, but for the lists, of which it has the lengths.
+// Room for a report: the lists take at most six bytes a word, and all else at most 80.
+const ROOM: usize = 8192;
+
+// A term's words, in room for `N`.
+#[derive(Drop)]
+struct Words<const N: usize> {
+    room: [u16; N],
+    count: usize,
+}
+
+impl<const N: usize> Model for Words<N> {
+    ghost use Rattle.std.specs.Prelude.{ℕ, List, take};
+
+    ghost Value = { List ℕ };
+
+    ghost view = { λ w. take w.count w.room };
+}
+
+impl<const N: usize> Words<N> {
+    fn first(count: usize, room: [u16; N]) -> Self
+        ensures { result ≡ take count room.entry }
+    {
+        Words { room, count }
+    }
+
+    fn words(&self) -> &[u16]
+        ensures words { result.now ≡ self.now }
+        ensures within { length self.now ≤ N }
+    {
+        front(&self.room, self.count)
+    }
+}
+
+// What is printed: the numbers are those of the C interface.
 #[derive(Drop)]
 struct Findings {
     answer: u32,
     place: u32,
-    length: usize,
+    typ: Words<32>,
     end: u32,
     steps: u32,
-    count: usize,
+    state: Words<1024>,
 }
 
-// The report of a refused term.
-fn refused(answer: u32, place: u32) -> Findings
-    ensures { result ≡ record { answer = answer; place = place; length = 0; end = 0; steps = 0; count = 0 } }
-{
-    Findings {
-        answer,
-        place,
-        length: 0,
-        end: 0,
-        steps: 0,
-        count: 0,
+impl Model for Findings {
+    ghost use Rattle.report.specs.Report.{Lines};
+
+    ghost Value = { Lines };
+
+    ghost view = { λ f. record { answer = f.answer; place = f.place; type = f.typ; end = f.end; steps = f.steps; state = f.state } };
+}
+
+impl Findings {
+    // Those of a refused term.
+    fn refused(answer: u32, place: u32) -> Self
+        ensures { result ≡ record { answer = answer; place = place; type = []; end = 0; steps = 0; state = [] } }
+    {
+        Findings {
+            answer,
+            place,
+            typ: Words::first(0, [0; 32]),
+            end: 0,
+            steps: 0,
+            state: Words::first(0, [0; 1024]),
+        }
+    }
+
+    // The six lines.
+    fn report(&self) -> Page<ROOM>
+        ensures { result ≡ printed self.now }
+    {
+        let mut page = Page::new();
+        line(&mut page, b"answer=", self.answer);
+        line(&mut page, b"place=", self.place);
+        list_line(&mut page, b"type=", self.typ.words());
+        line(&mut page, b"end=", self.end);
+        line(&mut page, b"steps=", self.steps);
+        list_line(&mut page, b"state=", self.state.words());
+        page
     }
 }
 
 // Limit 32, budget and allowance 1,000, caller 0. "A refused term isn't run."
-fn judge(term: &[u16], output: &mut [u16], state: &mut [u16]) -> Findings
-    requires in_bounds { 32 ≤ length output.old }
-    requires in_bounds_2 { 1024 ≤ length state.old }
-    ensures { Tells (told (judged term.now)) result
-        output.old output.new state.old state.new }
+fn judge(term: &[u16]) -> Findings
+    ensures { result ≡ told (judged term.now) }
 {
     let mut work = [0u16; 32768];
-    let checked = feguavy_check(term, 32, &mut work, output);
+    let mut output = [0u16; 32];
+    let checked = feguavy_check(term, 32, &mut work, &mut output);
     let answer = checked.answer;
     if answer != 0 {
-        return refused(answer, checked.place);
+        return Findings::refused(answer, checked.place);
     }
-    let length = checked.length as usize;
-    let ran = feguavy_run(term, 1000, &mut work, state, 0, Desk::alone(1000));
+    let mut state = [0u16; 1024];
+    let ran = feguavy_run(term, 1000, &mut work, &mut state, 0, Desk::alone(1000));
+    let count = span(&state);
     Findings {
         answer: 0,
         place: 0,
-        length,
+        typ: Words::first(checked.length as usize, output),
         end: ran.end,
         steps: ran.steps,
-        count: span(state),
+        state: Words::first(count, state),
     }
 }
 
-// An odd number of bytes, and one over 2,048, is no allowed length.
-fn answer(bytes: &[u8], output: &mut [u16], state: &mut [u16]) -> Findings
-    requires in_bounds { 32 ≤ length output.old }
-    requires in_bounds_2 { 1024 ≤ length state.old }
-    ensures { Tells (told (outcome bytes.now)) result
-        output.old output.new state.old state.new }
+// An odd number of bytes, and one over 2,048, is no allowed length: 4 is C's number for that.
+fn answer(bytes: &[u8]) -> Findings
+    ensures { result ≡ told (outcome bytes.now) }
 {
     if words::allowed(bytes) {
         let mut words = [0u16; 1024];
         words::of_bytes(bytes, &mut words);
-        return judge(front(&words, bytes.len() / 2), output, state);
+        return judge(front(&words, bytes.len() / 2));
     }
-    refused(4, 0)
+    Findings::refused(4, 0)
 }
 
-// A name and its value, of at most ten digits, with a line feed.
-fn line(name: &[u8], value: u32, out: &mut [u8], at: usize) -> usize
-    ensures appends { Appends (name.now ++ decimal value ++ (10 ∷ [])) out.old at result out.new }
-    ensures value_len_bound { length (decimal value) ≤ 10 }
+// A name and its value, of at most ten digits as its type says, with a line feed.
+#[tactic(auto, using(text::proofs::Appended::appends))]
+fn line<const N: usize>(page: &mut Page<N>, name: &[u8], value: u32)
+    ensures appends { page.new ≡ appended N page.old (name.now ++ decimal value ++ (10 ∷ [])) }
+    ensures short { length (decimal value) ≤ 10 }
 {
-    let valued = text::named(name, value as u64, out, at);
-    text::byte(b'\n', out, valued)
+    page.text(name);
+    page.decimal(u64::from(value));
+    page.byte(b'\n');
 }
 
-// A name and its words, of at most five digits and parted by one space, with a line feed.
-fn list_line(name: &[u8], words: &[u16], out: &mut [u8], at: usize) -> usize
-    ensures appends { Appends (name.now ++ list words.now ++ (10 ∷ []))
-        out.old at result out.new }
-    ensures words_len_bound { length (list words.now) ≤ 6 * length words.now }
+// A name and its words, of at most five digits as their type says and parted by one space, with a line feed. Apart from `line`,
+// since the bounds on the texts follow from the types.
+#[tactic(auto, using(text::proofs::Appended::appends))]
+fn list_line<const N: usize>(page: &mut Page<N>, name: &[u8], words: &[u16])
+    ensures appends { page.new ≡ appended N page.old (name.now ++ list words.now ++ (10 ∷ [])) }
+    ensures short { length (list words.now) ≤ 6 * length words.now }
 {
-    let named = text::bytes(name, out, at);
-    let listed = text::list(words, out, named);
-    text::byte(b'\n', out, listed)
+    page.text(name);
+    page.list(words);
+    page.byte(b'\n');
 }
 
-// The six lines. A word takes at most six bytes, and all else at most 80.
-fn lines(found: Findings, output: &[u16], state: &[u16], out: &mut [u8]) -> usize
-    requires { 80 + 6 * (length output.now + length state.now) ≤ length out.old }
-    ensures { Prints (printed (shown found output.now state.now))
-        out.old result out.new }
+// The report on the bytes that were read.
+fn report(bytes: &[u8]) -> Page<ROOM>
+    ensures { result ≡ report_of bytes.now }
 {
-    let answered = line(b"answer=", found.answer, out, 0);
-    let placed = line(b"place=", found.place, out, answered);
-    let typed = list_line(b"type=", front(output, found.length), out, placed);
-    let ended = line(b"end=", found.end, out, typed);
-    let stepped = line(b"steps=", found.steps, out, ended);
-    list_line(b"state=", front(state, found.count), out, stepped)
-}
-
-// The report on the bytes that were read, at the start of `out`, and its length.
-fn report(bytes: &[u8], out: &mut [u8]) -> usize
-    requires { 8192 ≤ length out.old }
-    ensures { Prints (report_of bytes.now) out.old result out.new }
-{
-    let mut output = [0u16; 32];
-    let mut state = [0u16; 1024];
-    let found = answer(bytes, &mut output, &mut state);
-    lines(found, &output, &state, out)
+    answer(bytes).report()
 }
 
 // What cannot be read or written is said on standard error, and the exit status is 0 all the same.
 fn main(rt: HostRuntime) {
     let mut bytes = [0u8; 2049];
-    let mut out = [0u8; 8192];
-    let got = streams::read_full(&rt, &mut rt.input(), &mut bytes);
-    if got.error != 0 {
-        return streams::say(&rt, b"report: standard input", got.error);
-    }
-    let count = got.count;
-    let length = report(&bytes[..count], &mut out);
-    let put = streams::write_all(&rt, &mut rt.output(), &out[..length]);
-    if put.error != 0 {
-        streams::say(&rt, b"report: standard output", put.error);
+    match streams::read_full(&rt, &mut rt.input(), &mut bytes) {
+        Ok(count) => {
+            let page = report(&bytes[..count]);
+            if let Err(cut) = streams::write_all(&rt, &mut rt.output(), page.bytes()) {
+                streams::say(&rt, b"report: standard output", cut.error.number);
+            }
+        }
+        Err(cut) => streams::say(&rt, b"report: standard input", cut.error.number),
     }
 }

@@ -2,7 +2,8 @@
 // finds the one that those before it left; otherwise each is answered by itself.
 #![tactic(auto)]
 
-ghost use Rattle.std.specs.Prelude.{not, ◌≡◌, eqb};
+ghost use Rattle.std.specs.ControlFlow.{MatchControlFlow};
+ghost use Rattle.std.specs.Prelude.{false, true, ◌≡◌};
 ghost use Rattle.protocol.specs.Desks.{Serves};
 ghost use Rattle.session.specs.Sessions.{
   answer_in,
@@ -20,11 +21,12 @@ ghost use Rattle.session.specs.Sessions.{
 ghost use Rattle.session.specs.declared.Session.{Session};
 
 use evaluation::Desk;
-use protocol::desk::Served;
 use protocol::output::Output;
 use protocol::request::Request;
 use protocol::{answer, desk};
+use std::ops::ControlFlow;
 use streams::Devices;
+use text::page::Page;
 
 // The request being read, the answers to those before it, the desk that they left, and whether it is kept.
 #[derive(Clone, Copy)]
@@ -35,6 +37,8 @@ pub struct Session {
     pub keeps: bool,
 }
 
+// The words of the request, the working slice and the page are lent beside the session: a struct of all four would be moved with its
+// two megabytes, or hold references whose names every contract would have to keep.
 impl Session {
     // Before the first byte, with no allowance for anyone.
     fn new(keeps: bool) -> Self
@@ -49,96 +53,89 @@ impl Session {
     }
 
     // The steps granted to the run that the request asks for.
+    #[tactic(auto, unfolding(crate::specs::Sessions::granted_in))]
     fn granted(self) -> u32
         ensures { result ≡ granted_in self }
     {
-        let request = self.request;
         if self.keeps {
-            return desk::granted(request, self.desk);
+            return desk::granted(self.request, self.desk);
         }
-        answer::granted(request)
+        answer::granted(self.request)
     }
 
-    // The answer to the request, and the desk after it.
-    fn replied(self, words: &[u16], work: &mut [u16], out: &mut [u8], at: usize) -> Served
-        ensures { Serves (answer_in self words.now work.old)
-            work.new out.old at result out.new }
+    // Appends the answer to the request: the desk after it.
+    fn replied<const N: usize>(self, words: &[u16], work: &mut [u16], page: &mut Page<N>) -> Desk
+        ensures { Serves N (answer_in self words.now work.old) work.new page.old result page.new }
     {
-        let request = self.request;
-        let desk = self.desk;
         if self.keeps {
-            return desk::answer(request, desk, words, work, out, at);
+            return desk::answer(self.request, self.desk, words, work, page);
         }
-        Served {
-            end: answer::answer(request, words, work, out, at),
-            desk,
-        }
+        answer::answer(self.request, words, work, page);
+        self.desk
     }
 
     // With the request answered, unless the answers before it cannot be written.
-    fn answered<R: Devices>(
-        mut self,
+    fn answered<R: Devices, const N: usize>(
+        self,
         rt: &R,
         words: &[u16],
         work: &mut [u16],
-        out: &mut [u8],
+        page: &mut Page<N>,
     ) -> Self
-        ensures { Answers (place self words.now work.old out.old)
-            (place result words.now work.new out.new) }
+        ensures { Answers N (place self words.now work.old page.old) (place result words.now work.new page.new) }
     {
-        let ready = self.output.ready_for(rt, self.granted(), out);
-        if ready.error != 0 {
-            self.output = ready;
-            return self;
+        let ready = self.output.ready_for(rt, self.granted(), page);
+        if ready.error.is_some() {
+            return Session {
+                output: ready,
+                ..self
+            };
         }
-        let told = self.replied(words, work, out, ready.filled);
-        let desk = told.desk;
-        self.output = ready.answered(told.end).with_room(rt, out);
-        self.desk = desk;
-        self.request = Request::new();
-        self
+        let after = self.replied(words, work, page);
+        Session {
+            request: Request::new(),
+            output: ready.answered().with_room(rt, page),
+            desk: after,
+            ..self
+        }
     }
 
     // At the end of a line: the request is answered.
-    fn line_ended<R: Devices>(
-        mut self,
+    fn line_ended<R: Devices, const N: usize>(
+        self,
         rt: &R,
         words: &mut [u16],
         work: &mut [u16],
-        out: &mut [u8],
+        page: &mut Page<N>,
     ) -> Self
-        ensures { Answers (line_end (place self words.old work.old out.old))
-            (place result words.new work.new out.new) }
+        ensures { Answers N (line_end (place self words.old work.old page.old)) (place result words.new work.new page.new) }
     {
-        self.request = self.request.field_ended(words);
-        self.answered(rt, words, work, out)
+        let request = self.request.field_ended(words);
+        Session { request, ..self }.answered(rt, words, work, page)
     }
 
-    // With the bytes line by line, and no more once an answer cannot be written.
-    fn take_all<R: Devices>(
+    // With the bytes line by line, and no more once an answer cannot be written. No `for`: the request tells where a line ends.
+    fn take_all<R: Devices, const N: usize>(
         self,
         rt: &R,
         input: &[u8],
         words: &mut [u16],
         work: &mut [u16],
-        out: &mut [u8],
+        page: &mut Page<N>,
     ) -> Self
-        ensures { Takes input.now (place self words.old work.old out.old)
-            (place result words.new work.new out.new) }
+        ensures { Takes N input.now (place self words.old work.old page.old) (place result words.new work.new page.new) }
     {
         let mut now = self;
-        let mut at = 0;
-        while at < input.len() {
-            let fed = now.request.fed_line(input, at, words);
-            let request = fed.request;
-            now.request = request;
-            at = fed.at;
-            if input.len() <= at {
+        let mut rest = input;
+        while !rest.is_empty() {
+            let fed = now.request.fed_line(rest, 0, words);
+            now.request = fed.request;
+            if rest.len() <= fed.at {
                 return now;
             }
-            at += 1;
-            now = now.line_ended(rt, words, work, out);
-            if now.output.error != 0 {
+            rest = &rest[fed.at + 1..];
+            now = now.line_ended(rt, words, work, page);
+            if now.output.error.is_some() {
                 return now;
             }
         }
@@ -146,129 +143,100 @@ impl Session {
     }
 
     // With what was read at one go, and every answer to it written out.
-    fn take_chunk<R: Devices>(
+    fn take_chunk<R: Devices, const N: usize>(
         self,
         rt: &R,
         input: &[u8],
         words: &mut [u16],
         work: &mut [u16],
-        out: &mut [u8],
+        page: &mut Page<N>,
     ) -> Self
-        ensures { TakesChunk input.now (place self words.old work.old out.old)
-            (place result words.new work.new out.new) }
+        ensures { TakesChunk N input.now (place self words.old work.old page.old) (place result words.new work.new page.new) }
     {
-        let mut after = self.take_all(rt, input, words, work, out);
-        after.output = after.output.flushed(rt, out);
-        after
+        let after = self.take_all(rt, input, words, work, page);
+        Session {
+            output: after.output.flushed(rt, page),
+            ..after
+        }
     }
 
     // At the end of the input: a last line with no line feed is answered too.
-    fn finished<R: Devices>(
+    fn finished<R: Devices, const N: usize>(
         self,
         rt: &R,
         words: &mut [u16],
         work: &mut [u16],
-        out: &mut [u8],
+        page: &mut Page<N>,
     ) -> Self
-        ensures { Finishes (place self words.old work.old out.old)
-            (place result words.new work.new out.new) }
+        ensures { Finishes N (place self words.old work.old page.old) (place result words.new work.new page.new) }
     {
-        if !self.request.begun() {
+        let begun = self.request.begun();
+        if !begun {
             return self;
         }
-        let mut after = self.line_ended(rt, words, work, out);
-        after.output = after.output.flushed(rt, out);
-        after
+        let after = self.line_ended(rt, words, work, page);
+        Session {
+            output: after.output.flushed(rt, page),
+            ..after
+        }
     }
 }
 
-// Says what became of the answers: a receipt where all are written.
-fn conclude<R: Devices>(rt: &R, program: &[u8], output: Output) {
-    if output.error != 0 {
-        return output.stopped(rt, program, b"request", b"standard output", output.error);
-    }
-    output.receipt(rt, program, b"request");
-}
-
-// What is read next begins where this ended, or nothing is.
-#[derive(Drop)]
-struct Next {
-    session: Session,
-    over: bool,
-}
-
-// Goes on, unless the output failed.
-fn going_on<R: Devices>(rt: &R, program: &[u8], session: Session) -> Next
-    ensures { result ≡ record { session = session; over = not (eqb session.output.error 0) } }
-{
-    let output = session.output;
-    let over = output.error != 0;
-    if over {
-        conclude(rt, program, output);
-    }
-    Next { session, over }
-}
-
-// Reads once. At the end of the input, or where that cannot be read, nothing more is.
-fn turn<R: Devices>(
+// Reads once. At the end of the input, or where that cannot be read or an answer cannot be written, nothing more is.
+fn turn<R: Devices, const N: usize>(
     rt: &R,
     program: &[u8],
     session: Session,
     input: &mut [u8],
     words: &mut [u16],
     work: &mut [u16],
-    out: &mut [u8],
-) -> Next
-    ensures { Turns (place session words.old work.old out.old) result.over
-        (place result.session words.new work.new out.new) }
+    page: &mut Page<N>,
+) -> ControlFlow<Session, Session>
+    ensures { MatchControlFlow result
+        (λ s. Turns N (place session words.old work.old page.old) false (place s words.new work.new page.new))
+        (λ s. Turns N (place session words.old work.old page.old) true (place s words.new work.new page.new)) }
 {
-    let got = streams::read(rt, &mut rt.input(), input);
-    if got.error != 0 {
-        session
-            .output
-            .stopped(rt, program, b"request", b"standard input", got.error);
-        return Next {
-            session,
-            over: true,
-        };
+    match streams::read(rt, &mut rt.input(), input) {
+        Ok(0) => {
+            let last = session.finished(rt, words, work, page);
+            last.output.concluded(rt, program, b"request");
+            ControlFlow::Break(last)
+        }
+        Ok(count) => {
+            let after = session.take_chunk(rt, &input[..count], words, work, page);
+            if after.output.error.is_some() {
+                after.output.concluded(rt, program, b"request");
+                return ControlFlow::Break(after);
+            }
+            ControlFlow::Continue(after)
+        }
+        Err(error) => {
+            session
+                .output
+                .stopped(rt, program, b"request", b"standard input", error.number);
+            ControlFlow::Break(session)
+        }
     }
-    if got.count == 0 {
-        let last = session.finished(rt, words, work, out);
-        conclude(rt, program, last.output);
-        return Next {
-            session: last,
-            over: true,
-        };
-    }
-    going_on(
-        rt,
-        program,
-        session.take_chunk(rt, text::filled(input, got.count), words, work, out),
-    )
 }
 
-// Answers to the end of the input. A proved loop has to end: it counts down from a number that no input uses up.
-fn serve_on<R: Devices>(
+// Answers to the end of the input. A proved loop has to end: it counts to a number that no input uses up.
+fn serve_on<R: Devices, const N: usize>(
     rt: &R,
     program: &[u8],
     keeps: bool,
     input: &mut [u8],
     words: &mut [u16],
     work: &mut [u16],
-    out: &mut [u8],
+    page: &mut Page<N>,
 )
-    ensures { (last : Session) × Lasts (place (begun keeps) words.old work.old out.old)
-        (place last words.new work.new out.new) }
+    ensures { (last : Session) × Lasts N (place (begun keeps) words.old work.old page.old) (place last words.new work.new page.new) }
 {
     let mut now = Session::new(keeps);
-    let mut turns = u64::MAX;
-    while 0 < turns {
-        turns -= 1;
-        let after = turn(rt, program, now, input, words, work, out);
-        if after.over {
-            return;
+    for _ in 0..u64::MAX {
+        match turn(rt, program, now, input, words, work, page) {
+            ControlFlow::Continue(after) => now = after,
+            ControlFlow::Break(_) => return,
         }
-        now = after.session;
     }
 }
 
@@ -277,8 +245,8 @@ pub fn serve<R: Devices>(rt: &R, program: &[u8], keeps: bool) {
     let mut input = io::large_buffer();
     let mut words = [0u16; 1025];
     let mut work = [0u16; 1048576];
-    let mut out = io::large_buffer();
+    let mut page = Page::<65536>::new();
     serve_on(
-        rt, program, keeps, &mut input, &mut words, &mut work, &mut out,
+        rt, program, keeps, &mut input, &mut words, &mut work, &mut page,
     );
 }

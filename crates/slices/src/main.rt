@@ -2,17 +2,18 @@
 // afterwards.
 #![tactic(auto)]
 
-ghost use Rattle.std.specs.Prelude.{◌≤◌};
-
 use evaluation::Desk;
-use feguavy::{CheckedNumbers, RanNumbers, feguavy_check, feguavy_run};
+use feguavy::{feguavy_check, feguavy_run};
 use streams::Devices;
 use text::front;
+use text::page::Page;
 
 // The longest slices that are lent: three words more than a check asks for at the greatest limit.
 const WORK: usize = 1048579;
 
 const RESULT: usize = 1027;
+
+type Line = Page<16384>;
 
 // The word that a slice holds at `i` before a call: never 0.
 fn garbage(i: usize) -> u16 {
@@ -21,102 +22,113 @@ fn garbage(i: usize) -> u16 {
 
 // Fills the words with garbage.
 fn spoil(words: &mut [u16]) {
-    let mut i = 0;
-    while i < words.len() {
-        words[i] = garbage(i);
-        i += 1;
+    for (i, word) in words.iter_mut().enumerate() {
+        *word = garbage(i);
     }
-}
-
-// The lesser of the two.
-fn least(a: usize, b: usize) -> usize
-    ensures { (result ≤ a) × (result ≤ b) }
-{
-    if a < b { a } else { b }
 }
 
 // How many zeros the words begin with.
 fn zeros(words: &[u16]) -> usize {
-    let mut i = 0;
-    while i < words.len() {
-        if words[i] != 0 {
-            return i;
-        }
-        i += 1;
-    }
-    i
+    words.iter().take_while(|word| **word == 0).count()
 }
 
 // From where on the words are as they were.
 fn kept_from(words: &[u16]) -> usize {
-    let mut n = words.len();
-    while 0 < n {
-        if words[n - 1] != garbage(n - 1) {
-            return n;
-        }
-        n -= 1;
-    }
-    n
+    let changed = words
+        .iter()
+        .enumerate()
+        .rev()
+        .find(|(i, word)| **word != garbage(*i));
+    changed.map_or(0, |(i, _)| i + 1)
+}
+
+fn put_named(line: &mut Line, name: &[u8], value: usize) {
+    line.text(name);
+    line.decimal(value as u64);
 }
 
 // ` work LENGTH zeros=Z kept=K`: the first Z words are zeros, and those from K on are as they were.
-fn put_work(words: &[u16], out: &mut [u8], at: usize) -> usize {
-    let sized = text::named(b" work ", words.len() as u64, out, at);
-    let counted = text::named(b" zeros=", zeros(words) as u64, out, sized);
-    text::named(b" kept=", kept_from(words) as u64, out, counted)
+fn put_work(line: &mut Line, words: &[u16]) {
+    put_named(line, b" work ", words.len());
+    put_named(line, b" zeros=", zeros(words));
+    put_named(line, b" kept=", kept_from(words));
 }
 
 // ` out LENGTH |` and the words that changed.
-fn put_result(words: &[u16], out: &mut [u8], at: usize) -> usize {
-    let sized = text::named(b" out ", words.len() as u64, out, at);
-    let barred = text::bytes(b" |", out, sized);
-    text::spaced(front(words, kept_from(words)), out, barred)
+fn put_result(line: &mut Line, words: &[u16]) {
+    put_named(line, b" out ", words.len());
+    line.text(b" |");
+    line.numbers(front(words, kept_from(words)));
 }
 
 // ` | WORDS ->`.
-fn put_term(term: &[u16], out: &mut [u8], at: usize) -> usize {
-    let barred = text::bytes(b" |", out, at);
-    let termed = text::spaced(term, out, barred);
-    text::bytes(b" ->", out, termed)
-}
-
-// The words that the two slices now hold, and a line feed.
-fn put_slices(work: &[u16], res: &[u16], out: &mut [u8], at: usize) -> usize {
-    let worked = put_work(work, out, at);
-    let ended = put_result(res, out, worked);
-    text::byte(b'\n', out, ended)
-}
-
-// A check on slices that hold garbage.
-fn checked(term: &[u16], limit: u32, work: &mut [u16], res: &mut [u16]) -> CheckedNumbers {
-    spoil(work);
-    spoil(res);
-    feguavy_check(term, limit, work, res)
+fn put_term(line: &mut Line, term: &[u16]) {
+    line.text(b" |");
+    line.numbers(term);
+    line.text(b" ->");
 }
 
 // Writes a line out. Where that fails, standard error says so, and the stored output differs.
 fn print<R: Devices>(rt: &R, line: &[u8]) {
-    let put = streams::write_all(rt, &mut rt.output(), line);
-    if put.error != 0 {
-        streams::say(rt, b"slices: standard output", put.error);
+    if let Err(cut) = streams::write_all(rt, &mut rt.output(), line) {
+        streams::say(rt, b"slices: standard output", cut.error.number);
     }
 }
 
-// `check LIMIT | WORDS -> ANSWER PLACE LENGTH`.
-fn put_checked(term: &[u16], limit: u32, r: CheckedNumbers, out: &mut [u8]) -> usize {
-    let named = text::bytes(b"check", out, 0);
-    let limited = text::numbers(&[limit], out, named);
-    let termed = put_term(term, out, limited);
-    text::numbers(&[r.answer, r.place, r.length], out, termed)
+// A call on the first `room` and `size` words, which hold garbage, and its line: what was asked and answered, which the call writes,
+// and what the slices hold then.
+fn call_parts<R: Devices, F: FnOnce(&mut [u16], &mut [u16], &mut Line)>(
+    rt: &R,
+    work: &mut [u16],
+    room: usize,
+    res: &mut [u16],
+    size: usize,
+    call: F,
+)
+    requires { F.IsAlwaysCallable call }
+{
+    let room = room.min(work.len());
+    let size = size.min(res.len());
+    let work = &mut work[..room];
+    let res = &mut res[..size];
+    spoil(work);
+    spoil(res);
+    let mut line = Page::new();
+    call(work, res, &mut line);
+    put_work(&mut line, work);
+    put_result(&mut line, res);
+    line.byte(b'\n');
+    print(rt, line.bytes());
 }
 
-// A check, and the line that tells of it.
-fn try_check<R: Devices>(rt: &R, term: &[u16], limit: u32, work: &mut [u16], res: &mut [u16]) {
-    let mut out = [0u8; 16384];
-    let r = checked(term, limit, work, res);
-    let answered = put_checked(term, limit, r, &mut out);
-    let all = put_slices(work, res, &mut out, answered);
-    print(rt, text::filled(&out, all));
+// A call on slices of `room` and `size` words.
+fn call_on<R: Devices, F: FnOnce(&mut [u16], &mut [u16], &mut Line)>(
+    rt: &R,
+    room: usize,
+    size: usize,
+    call: F,
+)
+    requires { F.IsAlwaysCallable call }
+{
+    let mut work = [0u16; WORK];
+    let mut result = [0u16; RESULT];
+    call_parts(rt, &mut work, room, &mut result, size, call);
+}
+
+// `check LIMIT | WORDS -> ANSWER PLACE LENGTH`.
+fn check_on<R: Devices>(rt: &R, term: &[u16], limit: u32, room: usize, size: usize) {
+    call_on(
+        rt,
+        room,
+        size,
+        |work: &mut [u16], output: &mut [u16], line: &mut Line| {
+            let r = feguavy_check(term, limit, work, output);
+            line.text(b"check");
+            line.numbers(&[limit]);
+            put_term(line, term);
+            line.numbers(&[r.answer, r.place, r.length]);
+        },
+    );
 }
 
 // Whose run it is, the steps asked for, and the desk.
@@ -127,137 +139,47 @@ struct Asked {
     desk: Desk,
 }
 
-// A run on slices that hold garbage.
-fn ran(term: &[u16], asked: Asked, work: &mut [u16], res: &mut [u16]) -> RanNumbers {
-    spoil(work);
-    spoil(res);
-    let desk = asked.desk;
-    feguavy_run(term, asked.budget, work, res, asked.caller, desk)
-}
-
-// `run CALLER BUDGET ALLOWANCE … | WORDS -> ANSWER PLACE END STEPS BETA MU CANCEL`, with the eight allowances.
-fn put_asked(term: &[u16], asked: Asked, out: &mut [u8]) -> usize {
-    let named = text::bytes(b"run", out, 0);
-    let granted = text::numbers(&[asked.caller, asked.budget], out, named);
-    let desk = asked.desk;
-    let allowed = put_desk(desk, out, granted);
-    put_term(term, out, allowed)
-}
-
-fn put_desk(desk: Desk, out: &mut [u8], at: usize) -> usize {
-    let allowances = desk.allowances;
-    text::numbers(&allowances, out, at)
-}
-
-fn put_ran(term: &[u16], asked: Asked, r: RanNumbers, out: &mut [u8]) -> usize {
-    let termed = put_asked(term, asked, out);
-    text::numbers(
-        &[
-            r.answer,
-            r.place,
-            r.end,
-            r.steps,
-            r.substitutions,
-            r.unfoldings,
-            r.cancellations,
-        ],
-        out,
-        termed,
-    )
-}
-
-// A run, and the line that tells of it, with ` left` and the desk afterwards.
-fn try_run<R: Devices>(rt: &R, term: &[u16], asked: Asked, work: &mut [u16], res: &mut [u16]) {
-    let mut out = [0u8; 16384];
-    let r = ran(term, asked, work, res);
-    let answered = put_ran(term, asked, r, &mut out);
-    let named = text::bytes(b" left", &mut out, answered);
-    let left = put_desk(r.desk, &mut out, named);
-    let all = put_slices(work, res, &mut out, left);
-    print(rt, text::filled(&out, all));
-}
-
-// A check on the first `room` and `size` words, where there are so many.
-fn check_parts<R: Devices>(
-    rt: &R,
-    term: &[u16],
-    limit: u32,
-    work: &mut [u16],
-    room: usize,
-    res: &mut [u16],
-    size: usize,
-) {
-    if room <= work.len() {
-        if size <= res.len() {
-            try_check(rt, term, limit, &mut work[..room], &mut res[..size]);
-        }
-    }
-}
-
-// A check on slices of `room` and `size` words.
-fn check_on<R: Devices>(rt: &R, term: &[u16], limit: u32, room: usize, size: usize) {
-    let mut work = [0u16; WORK];
-    let mut result = [0u16; RESULT];
-    check_parts(rt, term, limit, &mut work, room, &mut result, size);
-}
-
-// A run on the first `room` and `size` words, where there are so many.
-fn run_parts<R: Devices>(
-    rt: &R,
-    term: &[u16],
-    asked: Asked,
-    work: &mut [u16],
-    room: usize,
-    res: &mut [u16],
-    size: usize,
-) {
-    if room <= work.len() {
-        if size <= res.len() {
-            try_run(rt, term, asked, &mut work[..room], &mut res[..size]);
-        }
-    }
-}
-
-// A run on slices of `room` and `size` words.
+// `run CALLER BUDGET ALLOWANCE … | WORDS -> ANSWER PLACE END STEPS BETA MU CANCEL left ALLOWANCE …`, with the eight allowances before
+// and after.
 fn run_on<R: Devices>(rt: &R, term: &[u16], asked: Asked, room: usize, size: usize) {
-    let mut work = [0u16; 8195];
-    let mut result = [0u16; RESULT];
-    run_parts(rt, term, asked, &mut work, room, &mut result, size);
+    call_on(
+        rt,
+        room,
+        size,
+        |work: &mut [u16], state: &mut [u16], line: &mut Line| {
+            let r = feguavy_run(term, asked.budget, work, state, asked.caller, asked.desk);
+            line.text(b"run");
+            line.numbers(&[asked.caller, asked.budget]);
+            line.numbers(&asked.desk.allowances);
+            put_term(line, term);
+            line.numbers(&[
+                r.answer,
+                r.place,
+                r.end,
+                r.steps,
+                r.substitutions,
+                r.unfoldings,
+                r.cancellations,
+            ]);
+            line.text(b" left");
+            line.numbers(&r.desk.allowances);
+        },
+    );
 }
 
 // A check at each boundary length for a limit.
 fn check_all<R: Devices>(rt: &R, term: &[u16], limit: u32) {
-    let room = least(1024 * (limit as usize), WORK);
-    let size = least(limit as usize, RESULT);
+    let room = (1024 * limit as usize).min(WORK);
+    let size = (limit as usize).min(RESULT);
     check_on(rt, term, limit, room, size);
-    check_on(
-        rt,
-        term,
-        limit,
-        least(room + 3, WORK),
-        least(size + 3, RESULT),
-    );
+    check_on(rt, term, limit, room + 3, size + 3);
     check_on(rt, term, limit, 0, size);
     check_on(rt, term, limit, room, 0);
-    if 0 < room {
-        if 0 < size {
-            check_on(rt, term, limit, room - 1, size);
-            check_on(rt, term, limit, room, size - 1);
-            check_on(rt, term, limit, room - 1, size - 1);
-        }
+    if 0 < room && 0 < size {
+        check_on(rt, term, limit, room - 1, size);
+        check_on(rt, term, limit, room, size - 1);
+        check_on(rt, term, limit, room - 1, size - 1);
     }
-}
-
-fn check_limits<R: Devices>(rt: &R, term: &[u16]) {
-    check_all(rt, term, 0);
-    check_all(rt, term, 1);
-    check_all(rt, term, 4);
-    check_all(rt, term, 5);
-    check_all(rt, term, 64);
-    check_all(rt, term, 1023);
-    check_all(rt, term, 1024);
-    check_all(rt, term, 1025);
-    check_all(rt, term, 4294967295);
 }
 
 // A run at each boundary length.
@@ -272,35 +194,33 @@ fn run_all<R: Devices>(rt: &R, term: &[u16], asked: Asked) {
 
 // A run of a caller whose neighbours have other allowances than it has; past the eighth there is none.
 fn run_for<R: Devices>(rt: &R, term: &[u16], caller: u32, budget: u32, allowance: u32) {
-    let mut allowances = [11u32, 12, 13, 14, 15, 16, 17, 4294967295];
-    let at = caller as usize;
-    if at < 8 {
-        allowances[at] = allowance;
+    let mut allowances = [11, 12, 13, 14, 15, 16, 17, u32::MAX];
+    if let Some(own) = allowances.get_mut(caller as usize) {
+        *own = allowance;
     }
+    let desk = Desk { allowances };
     run_all(
         rt,
         term,
         Asked {
             caller,
             budget,
-            desk: Desk { allowances },
+            desk,
         },
     );
 }
 
-fn run_budgets<R: Devices>(rt: &R, term: &[u16]) {
+fn all<R: Devices>(rt: &R, term: &[u16]) {
+    for limit in [0, 1, 4, 5, 64, 1023, 1024, 1025, u32::MAX] {
+        check_all(rt, term, limit);
+    }
     run_for(rt, term, 0, 0, 7);
     run_for(rt, term, 3, 1, 7);
     run_for(rt, term, 7, 3, 2);
-    run_for(rt, term, 0, 1000, 4294967295);
+    run_for(rt, term, 0, 1000, u32::MAX);
     run_for(rt, term, 6, 5, 0);
     run_for(rt, term, 8, 5, 0);
-    run_for(rt, term, 4294967295, 1, 0);
-}
-
-fn all<R: Devices>(rt: &R, term: &[u16]) {
-    check_limits(rt, term);
-    run_budgets(rt, term);
+    run_for(rt, term, u32::MAX, 1, 0);
 }
 
 // Star, a down cast on an up cast, a term that is stuck, the identity, one that runs on, one that grows; and words that are no

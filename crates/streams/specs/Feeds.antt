@@ -1,6 +1,5 @@
 -- Line feeds, by which answers are counted.
-use Rattle.std.specs.Prelude.{ℕ, suc, cond, List, [], ◌∷◌, eqb}
+use Rattle.std.specs.Prelude.{ℕ, List, eqb, count_by}
 
-unfoldable pub feeds : List ℕ → ℕ
-feeds [] = 0
-feeds (b ∷ bs) = cond (eqb b 10) (suc (feeds bs)) (feeds bs)
+abbrev pub feeds : List ℕ → ℕ
+feeds bs = count_by (λ b. eqb b 10) bs

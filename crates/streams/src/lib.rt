@@ -2,7 +2,8 @@
 // pause, and any other failure is answered by its number, with how many bytes were moved before it.
 #![tactic(auto)]
 
-ghost use Rattle.std.specs.Prelude.{◌<◌, ◌≤◌, ◌||◌, ◌≡◌, eqb, length};
+ghost use Rattle.std.specs.Prelude.{◌<◌, ◌≤◌, ◌||◌, ◌≡◌, eqb, length, take, IfErr, IfOk, IsErr, MatchOption, MatchResult};
+ghost use Rattle.std.specs.Io.KnownBytes.{Appends, WriteAppends};
 ghost use Rattle.io.specs.Counts.{IsPrefixLen};
 ghost use Rattle.streams.specs.Feeds.{feeds};
 
@@ -10,10 +11,10 @@ use std::io::{Cursor, Error, Read, Stderr, Stdin, Stdout, Write};
 use std::thread;
 use std::time::{Clock, Duration};
 
-// The system's numbers: EINTR, EIO and EAGAIN, which is also EWOULDBLOCK.
+// The system's numbers: EINTR, EIO and EAGAIN, which is also EWOULDBLOCK. What `again` promises is said of them.
 const INTERRUPTED: u32 = 4;
 
-const DEVICE: u32 = 5;
+const DEVICE: Errno = Errno { number: 5 };
 
 const BLOCKED: u32 = 11;
 
@@ -53,11 +54,30 @@ impl Devices for HostRuntime {
     }
 }
 
-// How many bytes were moved, and the system's number of what stopped it, 0 for nothing.
-#[derive(Drop)]
-pub struct Transfer {
+// The system's number of what failed, which is never 0.
+#[derive(Clone, Copy, Debug, PartialEq, Eq)]
+pub struct Errno {
+    pub number: u32,
+    ghost nonzero: { 0 < number },
+}
+
+impl From<Error> for Errno {
+    // An error that has no number counts as one of the device.
+    fn from(failed: Error) -> Self {
+        match failed.raw_os_error() {
+            Some(error) if 0 < error => Errno {
+                number: error as u32,
+            },
+            _ => DEVICE,
+        }
+    }
+}
+
+// What cut a transfer short, and how many bytes were moved before.
+#[derive(Clone, Copy, Debug, PartialEq, Eq)]
+pub struct Cut {
     pub count: usize,
-    pub error: u32,
+    pub error: Errno,
 }
 
 // Waits for a millisecond, and costs no core.
@@ -65,185 +85,144 @@ fn pause<C: Clock>(clock: &C) {
     thread::sleep(clock, Duration::from_millis(1));
 }
 
-// An error's number. An error that has none counts as one of the device.
-fn number(error: i32) -> u32
-    ensures { 0 < result }
+// Whether the call is to be made again. Where it would have blocked, that is after a pause.
+fn again<C: Clock>(clock: &C, error: Errno) -> bool
+    ensures { result ≡ eqb error.number 11 || eqb error.number 4 }
 {
-    if 0 < error { error as u32 } else { DEVICE }
-}
-
-// The number of the error that a call just answered.
-pub fn last_error(failed: Error) -> u32
-    ensures { 0 < result }
-{
-    match failed.raw_os_error() {
-        Some(error) => number(error),
-        None => DEVICE,
+    match error.number {
+        BLOCKED => {
+            pause(clock);
+            true
+        }
+        number => number == INTERRUPTED,
     }
 }
 
-// The number of the failure that a call just answered: a write that takes nothing and says no error failed too.
-fn failure(answer: std::io::Result<usize>) -> u32
-    ensures { 0 < result }
+// What a call answered, or nothing where it is to be made again.
+fn settled<C: Clock>(clock: &C, answer: std::io::Result<usize>) -> Option<Result<usize, Errno>>
+    ensures { MatchOption result (IsErr answer) (λ r. MatchResult r (λ n. answer ≡ Ok n) (λ _. IsErr answer)) }
 {
     match answer {
-        Ok(_) => DEVICE,
-        Err(failed) => last_error(failed),
-    }
-}
-
-// Whether the call is to be made again. Where it would have blocked, that is after a pause.
-fn again<C: Clock>(clock: &C, error: u32) -> bool
-    ensures { result ≡ eqb error 11 || eqb error 4 }
-{
-    if error == BLOCKED {
-        pause(clock);
-        return true;
-    }
-    error == INTERRUPTED
-}
-
-// One write of at least one byte. A proved loop has to end: it counts to a number that no device uses up.
-fn write_some<C: Clock, W: Write>(clock: &C, to: &mut W, bytes: &[u8]) -> Transfer
-    ensures within { result.count ≤ length bytes.now }
-    ensures some { result.error ≡ 0 → 0 < result.count }
-{
-    for _ in 0..u64::MAX {
-        let put = to.write(bytes);
-        if let Ok(count) = put {
-            if 0 < count {
-                return Transfer { count, error: 0 };
+        Ok(count) => Some(Ok(count)),
+        Err(failed) => {
+            let error = Errno::from(failed);
+            if again(clock, error) {
+                None
+            } else {
+                Some(Err(error))
             }
         }
-        let error = failure(put);
-        if !again(clock, error) {
-            return Transfer { count: 0, error };
-        }
-    }
-    Transfer {
-        count: 0,
-        error: DEVICE,
     }
 }
 
-// Writes all of `bytes`, or as many as the device takes.
-pub fn write_all<C: Clock, W: Write>(clock: &C, to: &mut W, bytes: &[u8]) -> Transfer
-    ensures within { result.count ≤ length bytes.now }
-    ensures all { result.error ≡ 0 → result.count ≡ length bytes.now }
+// One write of at least one byte: a write that takes nothing and says no error failed too. A proved loop has to end: it counts to a
+// number that no device uses up.
+fn write_some<C: Clock, W: Write>(clock: &C, to: &mut W, bytes: &[u8]) -> Result<usize, Errno>
+    ensures within { IfOk result (λ n. n ≤ length bytes.now) }
+    ensures some { IfOk result (λ n. 0 < n) }
+    ensures bytes { WriteAppends (W.contents to.old) (W.contents to.new) result bytes.now }
+{
+    for _ in 0..u64::MAX {
+        match settled(clock, to.write(bytes)) {
+            Some(Ok(0)) => return Err(DEVICE),
+            Some(put) => return put,
+            None => {}
+        }
+    }
+    Err(DEVICE)
+}
+
+// Writes all of `bytes`, or as many as the device takes. No `for`: it goes on by as many as were taken.
+pub fn write_all<C: Clock, W: Write>(clock: &C, to: &mut W, bytes: &[u8]) -> Result<(), Cut>
+    ensures within { IfErr result (λ cut. cut.count ≤ length bytes.now) }
+    ensures bytes { MatchResult result (λ _. Appends (W.contents to.old) (W.contents to.new) bytes.now)
+        (λ cut. Appends (W.contents to.old) (W.contents to.new) (take cut.count bytes.now)) }
 {
     let mut count = 0;
     while count < bytes.len() {
-        let put = write_some(clock, to, &bytes[count..]);
-        if put.error != 0 {
-            return Transfer {
-                count,
-                error: put.error,
-            };
+        match write_some(clock, to, &bytes[count..]) {
+            Ok(taken) => count += taken,
+            Err(error) => return Err(Cut { count, error }),
         }
-        count += put.count;
     }
-    Transfer { count, error: 0 }
+    Ok(())
 }
 
-// One read: no bytes and no error at the end of the input.
-pub fn read<C: Clock, R: Read>(clock: &C, from: &mut R, buffer: &mut [u8]) -> Transfer
-    ensures { IsPrefixLen result.count buffer.new }
+// One read: no bytes at the end of the input.
+pub fn read<C: Clock, R: Read>(clock: &C, from: &mut R, buffer: &mut [u8]) -> Result<usize, Errno>
+    ensures { IfOk result (λ n. IsPrefixLen n buffer.new) }
 {
     for _ in 0..u64::MAX {
-        let got = from.read(buffer);
-        if let Ok(count) = got {
-            return Transfer { count, error: 0 };
-        }
-        let error = failure(got);
-        if !again(clock, error) {
-            return Transfer { count: 0, error };
+        if let Some(got) = settled(clock, from.read(buffer)) {
+            return got;
         }
     }
-    Transfer {
-        count: 0,
-        error: DEVICE,
-    }
+    Err(DEVICE)
 }
 
-// Reads until the buffer is full, the input ends or a read fails.
-pub fn read_full<C: Clock, R: Read>(clock: &C, from: &mut R, buffer: &mut [u8]) -> Transfer
-    ensures { IsPrefixLen result.count buffer.new }
+// Reads until the buffer is full, the input ends or a read fails. No `for`: it goes on by as many as came.
+pub fn read_full<C: Clock, R: Read>(
+    clock: &C,
+    from: &mut R,
+    buffer: &mut [u8],
+) -> Result<usize, Cut>
+    ensures { MatchResult result (λ n. IsPrefixLen n buffer.new) (λ cut. IsPrefixLen cut.count buffer.new) }
 {
-    let mut count = 0;
-    while count < buffer.len() {
-        let got = read(clock, from, &mut buffer[count..]);
-        if got.error != 0 {
-            return Transfer {
-                count,
-                error: got.error,
-            };
+    let mut filled = 0;
+    while filled < buffer.len() {
+        match read(clock, from, &mut buffer[filled..]) {
+            Ok(0) => break,
+            Ok(got) => filled += got,
+            Err(error) => return Err(Cut {
+                count: filled,
+                error,
+            }),
         }
-        if got.count == 0 {
-            return Transfer { count, error: 0 };
-        }
-        count += got.count;
     }
-    Transfer { count, error: 0 }
+    Ok(filled)
 }
 
 // How many line feeds there are.
 pub fn lines(bytes: &[u8]) -> usize
     ensures { result ≡ feeds bytes.now }
 {
-    let mut count = 0;
-    let mut i = 0;
-    while i < bytes.len() {
-        if bytes[i] == b'\n' {
-            count += 1;
-        }
-        i += 1;
-    }
-    count
+    bytes.iter().filter(|byte| **byte == b'\n').count()
 }
 
-// How long the text before the last ` (` is, or 0: std ends the system's text for an error by ` (os error N)`.
-fn before_number(text: &[u8]) -> usize
-    ensures { result ≤ length text.now }
-{
-    let mut end = text.len();
-    while 0 < end {
-        end -= 1;
-        if text[end] == b'(' {
-            return if 0 < end { end - 1 } else { 0 };
-        }
-    }
-    0
+// The text before the last ` (`, or none: std ends the system's text for an error by ` (os error N)`.
+fn before_number(text: &[u8]) -> &[u8] {
+    let end = text.iter().rposition(|byte| *byte == b'(').unwrap_or(0);
+    &text[..end.saturating_sub(1)]
 }
 
-// The system's text for an error at the start of `out`, where it fits, and its length.
-fn described(error: u32, out: &mut [u8; 320]) -> usize
-    ensures { result ≤ 320 }
-{
+// std's text for an error with zeros behind it, or zeros alone where it does not fit.
+fn described(error: u32) -> [u8; 320] {
     let Ok(code) = i32::try_from(error) else {
-        return 0;
+        return [0u8; 320];
     };
     let mut text = Cursor::new([0u8; 320]);
     if write!(text, "{}", Error::from_raw_os_error(code)).is_err() {
-        return 0;
+        return [0u8; 320];
     }
-    *out = text.into_inner();
-    before_number(out)
+    text.into_inner()
 }
 
-// Writes a line to standard error: what failed, and the system's text for `error`, or its number.
+// Writes a line to standard error: what failed, and the system's text for `error`, or its number. Where that fails too, nothing is left
+// to say it. Any number may be said, so this takes no `Errno`.
 pub fn say<R: Devices>(rt: &R, what: &[u8], error: u32) {
     let mut errors = rt.errors();
-    let mut text = [0u8; 320];
-    let count = described(error, &mut text);
-    write_all(rt, &mut errors, what);
-    if count != 0 {
-        write_all(rt, &mut errors, b": ");
-        write_all(rt, &mut errors, &text[..count]);
+    let described = described(error);
+    let text = before_number(&described);
+    let mut digits = [0u8; 20];
+    let count = io::decimal(u64::from(error), &mut digits);
+    let number = &digits[..count];
+    if text.is_empty() {
+        for part in [what, b": error ", number, b"\n"] {
+            let _ = write_all(rt, &mut errors, part);
+        }
     } else {
-        let mut digits = [0u8; 20];
-        let count = io::decimal(error as u64, &mut digits);
-        write_all(rt, &mut errors, b": error ");
-        write_all(rt, &mut errors, &digits[..count]);
+        for part in [what, b": ", text, b"\n"] {
+            let _ = write_all(rt, &mut errors, part);
+        }
     }
-    write_all(rt, &mut errors, b"\n");
 }

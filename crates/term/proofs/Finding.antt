@@ -2,19 +2,24 @@
 -- as the word says, so that the walk over the first finds the second. That the words found there are the part's is `PartWords`
 -- of the calculus.
 use Prim.Native.Nat.{ℕ, zero, suc, ◌+◌, ◌-◌, ◌≤◌, ◌<◌}
+use mathlib.Core.Bool.{true, false, true≢false}
 use mathlib.Core.List.{List, [], ◌∷◌}
 use mathlib.Core.Path.{◌≡◌, refl, sym, ◌∙◌}
 use native.Mathlib.Omega.{arith}
 use lib.ListN.{length, get_or, take, drop, length-drop}
 use lib.Seq.{take_all, drop_at, drop-drop}
+use Rattle.std.specs.Prelude.{Result, Ok, Err}
+use Rattle.std.specs.Result.{is_err}
 use Rattle.calculus.specs.Term.{Term, var, star, app, lam, pi, castup, castdown, mu, name, size}
 use Rattle.calculus.specs.Words.{emit, words}
-use Rattle.calculus.specs.Answer.{Reason, ok, refused}
+use Rattle.calculus.specs.Answer.{ok}
 use Rattle.calculus.specs.Meaning.{meaning, binds}
 use Rattle.calculus.specs.Scan.{read}
 use Rattle.calculus.specs.Outcomes.{absent, parts, nth_part, found_in, found}
 use Rattle.calculus.proofs.Coding.{emit_append, words_length}
 use Rattle.calculus.proofs.ReadBack.{read_sound}
+use Rattle.term.specs.declared.refusal.Refusal.{Refusal}
+use Rattle.term.specs.Reasons.{answer_of}
 use Rattle.term.specs.Word.{arity}
 use Rattle.term.specs.Walk.{span}
 use Rattle.term.specs.Subterms.{outcome}
@@ -89,9 +94,18 @@ read_node ws t e =
 accepted : (ws : List ℕ) → ok tt ≡ outcome (read ws) → Node ws
 accepted ws h = let (t, e) = read_term ws (sym h) in read_node ws t e
 
-pub found_refused : {s : Reason} {q : ℕ} (ws : List ℕ) (k : ℕ) → refused s q ≡ outcome (read ws) → absent ≡ found ws k
+-- In a list that is refused nothing is found.
+pub found_refused : (ws : List ℕ) (k : ℕ) (r : Result (Unit {0}) Refusal)
+    → true ≡ is_err r
+    → answer_of r ≡ outcome (read ws)
+    → absent ≡ found ws k
 unfolding found found_in
-found_refused ws k h = rw (reads_refusal ws (sym h)) refl
+found_refused ws k (Ok u) e h = absurd (true≢false e)
+found_refused ws k (Err r) e h = rw (reads_refusal ws (sym h)) refl
+
+pub not_refused : (r : Result (Unit {0}) Refusal) → false ≡ is_err r → ok tt ≡ answer_of r
+not_refused (Ok u) e = refl
+not_refused (Err r) e = absurd (true≢false (sym e))
 
 module _ (ws : List ℕ) (e : ok tt ≡ outcome (read ws)) where
   pub inhabited : 1 ≤ length ws

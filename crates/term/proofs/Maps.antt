@@ -3,21 +3,20 @@
 use mathlib.Core.List.{List, [], ◌∷◌}
 use mathlib.Core.Path.{◌≡◌, refl, ap}
 use lib.ListN.{get_or}
+use Rattle.std.specs.Prelude.{Result, Ok, Err}
 use Rattle.calculus.specs.Answer as calculus
 use Rattle.calculus.specs.Answer.{Answer, ok, refused, number}
 use Rattle.calculus.specs.Meaning as calculus-meaning
 use Rattle.calculus.specs.Meaning.{a_star, a_castdown, an_app, a_castup, a_lam, a_pi, a_mu, a_variable, a_name, nothing}
 use Rattle.calculus.proofs.NumberInjective.{undone}
 use Rattle.term.specs.declared.Found.{Found}
-use Rattle.term.specs.declared.reading.Reading.{Reading}
-use Rattle.term.specs.declared.reading.Reading.TheVariants as reading
+use Rattle.term.specs.declared.refusal.Refusal.{Refusal}
 use Rattle.term.specs.declared.refusal.Reason.{Reason}
 use Rattle.term.specs.declared.refusal.Reason.TheVariants.{LimitNotAllowed, WorkShort, OutputShort, LengthNotAllowed, NoMeaning, ListEnds, WordsAfter, Level65, Unbound, NotStar, NotProduct, WrongArgument, NoStep, WrongCast, WrongRecursion, OverLimit, CallerNotAllowed}
 use Rattle.term.specs.declared.word.Meaning.{Meaning}
 use Rattle.term.specs.declared.word.Meaning.TheVariants.{Star, CastDown, Application, CastUp, Abstraction, Product, Recursion, Variable, Nothing, Name}
 use Rattle.term.specs.Found.{found_of}
-use Rattle.term.specs.Reasons.{reason_of}
-use Rattle.term.specs.Subterms.{reading_of}
+use Rattle.term.specs.Reasons.{answer_of, reason_of}
 use Rattle.term.specs.Word.{meaning_of}
 
 -- The reasons from number 0 on; no reason has the number 0.
@@ -76,16 +75,16 @@ reason_of_injective = undone reason_of reason_from reason_again
 pub found_of_injective : (a b : Found) → found_of a ≡ found_of b → a ≡ b
 found_of_injective = undone found_of (λ f. record { start = f.start; length = f.extent }) (λ f. refl)
 
-abbrev reading_from : Answer (Unit {0}) → Reading
-reading_from (ok u) = reading.Term
-reading_from (refused r p) = reading.Refused (record { reason = reason_from r; place = p })
+abbrev result_from : {A : Type 0} → Answer A → Result A Refusal
+result_from (ok a) = Ok a
+result_from (refused r p) = Err (record { reason = reason_from r; place = p })
 
-reading_again : (r : Reading) → reading_from (reading_of r) ≡ r
-reading_again reading.Term = refl
-reading_again (reading.Refused r) = ap (λ x. reading.Refused (record { reason = x; place = r.place })) (reason_again r.reason)
+result_again : {A : Type 0} (r : Result A Refusal) → result_from (answer_of r) ≡ r
+result_again (Ok a) = refl
+result_again (Err r) = ap (λ x. Err (record { reason = x; place = r.place })) (reason_again r.reason)
 
-pub reading_of_injective : (a b : Reading) → reading_of a ≡ reading_of b → a ≡ b
-reading_of_injective = undone reading_of reading_from reading_again
+pub answer_of_injective : {A : Type 0} (a b : Result A Refusal) → answer_of a ≡ answer_of b → a ≡ b
+answer_of_injective = undone answer_of result_from result_again
 
 abbrev meaning_from : calculus-meaning.Meaning → Meaning
 meaning_from a_star = Star

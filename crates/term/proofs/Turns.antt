@@ -69,8 +69,10 @@ module _ {ws rooms scopes : List ℕ} {n p room b : ℕ} (s : Stands ws rooms sc
   unfolding Fitting
   fits = rw (stacked_length rooms scopes n) at s.fitting.0
 
-  pub short : length ws ≤ p → refused list_ends p ≡ skim ws (pending deepest 0 ∷ []) 0
-  short h = sym (s.same ∙ skim_end ws p (pending room b) (stacked rooms scopes n) h)
+  pub short : length ws ≤ p → refused list_ends (length ws) ≡ skim ws (pending deepest 0 ∷ []) 0
+  short h =
+      let at_end : length ws ≡ p = omega (arith, s.within) in
+      ap (refused list_ends) at_end ∙ sym (s.same ∙ skim_end ws p (pending room b) (stacked rooms scopes n) h)
 
   module _ (inside : p < length ws) where
     pub turn_refused : {r : Reason}

@@ -1,6 +1,8 @@
--- The reasons of the papers that the variants of `Reason` stand for, and so their numbers.
-use Rattle.std.specs.Prelude.{ℕ}
+-- The reasons of the papers that the variants of `Reason` stand for, and so their numbers; and the answers that results stand for.
+use Rattle.std.specs.Prelude.{ℕ, Result, Ok, Err}
 use Rattle.calculus.specs.Answer as calculus
+use Rattle.calculus.specs.Answer.{Answer, ok, refused}
+use Rattle.term.specs.declared.refusal.Refusal.{Refusal}
 use Rattle.term.specs.declared.refusal.Reason.{Reason}
 use Rattle.term.specs.declared.refusal.Reason.TheVariants.{LimitNotAllowed, WorkShort, OutputShort, LengthNotAllowed, NoMeaning, ListEnds, WordsAfter, Level65, Unbound, NotStar, NotProduct, WrongArgument, NoStep, WrongCast, WrongRecursion, OverLimit, CallerNotAllowed}
 
@@ -26,3 +28,8 @@ reason_of CallerNotAllowed = calculus.caller_not_allowed
 -- The number of each reason.
 abbrev pub number_of : Reason → ℕ
 number_of r = calculus.number (reason_of r)
+
+-- The answer that a result stands for: what it has, or its refusal.
+abbrev pub answer_of : {A : Type 0} → Result A Refusal → Answer A
+answer_of (Ok a) = ok a
+answer_of (Err r) = refused (reason_of r.reason) r.place

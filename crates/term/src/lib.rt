@@ -10,12 +10,13 @@ pub mod refusal;
 pub mod walk;
 pub mod word;
 
-use crate::reading::{Reading, read};
+use crate::reading::read;
 use crate::walk::span;
 use crate::word::parts;
 
-// Where a part stands in the caller's words: 0, 0 where there is none.
-#[derive(Drop)]
+// Where a part stands in the caller's words: 0, 0 where there is none. No Option, since the calculus answers the same two numbers for
+// none, and the theorem found_of_injective names this struct.
+#[derive(Clone, Copy, Debug, PartialEq, Eq)]
 pub struct Found {
     pub start: usize,
     pub length: usize,
@@ -29,26 +30,22 @@ pub fn find(term: &[u16], number: u32) -> Found
         start: 0,
         length: 0,
     };
-    let Reading::Term = read(term) else {
+    if read(term).is_err() {
         return absent;
-    };
-    let count = parts(term[0]);
-    if number == 1 {
-        if 1 <= count {
-            return Found {
-                start: 1,
-                length: span(&term[1..]),
-            };
-        }
     }
-    if number == 2 {
-        if 2 <= count {
-            let second = 1 + span(&term[1..]);
-            return Found {
-                start: second,
-                length: span(&term[second..]),
-            };
-        }
+    let count = parts(term[0]);
+    if number == 1 && 1 <= count {
+        return Found {
+            start: 1,
+            length: span(&term[1..]),
+        };
+    }
+    if number == 2 && 2 <= count {
+        let second = 1 + span(&term[1..]);
+        return Found {
+            start: second,
+            length: span(&term[second..]),
+        };
     }
     absent
 }

@@ -3,31 +3,11 @@ ghost use Rattle.std.specs.Prelude.{◌≡◌, ℕ, ◌≤◌, [], ◌∷◌, le
 ghost use Rattle.calculus.specs.Words.{deepest};
 ghost use Rattle.calculus.specs.Meaning.{meaning};
 ghost use Rattle.calculus.specs.Scan.{read, test};
-ghost use Rattle.term.specs.Subterms.{inside, outcome, pending, reading_of, skim, subterm_of, visit_of};
+ghost use Rattle.term.specs.Reasons.{answer_of};
+ghost use Rattle.term.specs.Subterms.{inside, outcome, pending, skim, visit_of};
 
 use crate::refusal::{Reason, Refusal};
-use crate::word::{Meaning, bound, classify, parts, wide};
-
-// A list is one closed term, or it is refused.
-#[derive(Drop)]
-pub enum Reading {
-    Term,
-    Refused(Refusal),
-}
-
-// One subterm: the place behind it.
-#[derive(Drop)]
-enum Subterm {
-    Ends(usize),
-    Refused(Refusal),
-}
-
-// One word, tested.
-#[derive(Drop)]
-enum Visit {
-    Passes,
-    Refused(Reason),
-}
+use crate::word::{Meaning, bound, classify, parts};
 
 // How many binders a word needs around it: a variable one more than its index, and a word that means nothing, or a name, which no call
 // reads, more than there ever are. Of the sum on 16 bits the compiler makes no branch, as it does of one on 64 (docs/SHAPES.md).
@@ -43,112 +23,75 @@ fn needed(word: u16) -> u16
 
 // The tests of one word. Whether it passes them all is asked first, by tests that go the same way for almost every word; only where
 // it does not they are gone through, "in the order 5, 8, 9".
-fn tested(word: u16, room: usize, binders: usize) -> Visit
+fn tested(word: u16, room: usize, binders: usize) -> Result<(), Reason>
     requires { binders ≤ deepest }
     ensures { (p : ℕ) → visit_of result p ≡ test (meaning word) (pending room binders) p }
 {
-    if 0 < room {
-        if wide(needed(word)) <= binders {
-            return Visit::Passes;
-        }
+    if 0 < room && usize::from(needed(word)) <= binders {
+        return Ok(());
     }
-    let meaning = classify(word);
-    match meaning {
-        Meaning::Nothing | Meaning::Name(_) => {
-            return Visit::Refused(Reason::NoMeaning);
-        }
-        _ => {}
+    if matches!(classify(word), Meaning::Nothing | Meaning::Name(_)) {
+        return Err(Reason::NoMeaning);
     }
     if room == 0 {
-        return Visit::Refused(Reason::Level65);
+        return Err(Reason::Level65);
     }
-    Visit::Refused(Reason::Unbound)
+    Err(Reason::Unbound)
 }
 
-// The levels and the binders of a pending subterm are kept in bytes: neither is above 64.
-fn to_byte(count: usize) -> u8
-    requires { count ≤ deepest }
-    ensures { result ≡ count }
-{
-    count as u8
-}
-
-fn from_byte(byte: u8) -> usize
-    ensures { result ≡ byte }
-{
-    byte as usize
-}
-
-// Reads the closed term that the words begin with. `rooms` and `scopes` hold the levels left for each pending subterm and the
-// binders around it, the one that comes next last. Every word stores what holds in two parts, the first behind the second, whether
-// it has them or not, and its number of parts says how many of these entries count: so no branch depends on what the word is, which
-// the processor cannot foresee.
-fn read_first(words: &[u16]) -> Subterm
-    ensures { subterm_of result ≡ skim words.now (pending deepest 0 ∷ []) 0 }
+// Reads the closed term that the words begin with, and answers the place behind it. `rooms` and `scopes` hold the levels left for each
+// pending subterm and the binders around it, the one that comes next last. Every word stores what holds in two parts, the first behind
+// the second, whether it has them or not, and its number of parts says how many of these entries count: so no branch depends on what
+// the word is, which the processor cannot foresee. Two arrays, not one of pairs, which would be made and taken apart at every word.
+fn read_first(words: &[u16]) -> Result<usize, Refusal>
+    ensures { answer_of result ≡ skim words.now (pending deepest 0 ∷ []) 0 }
 {
     let mut rooms = [0u8; 65];
     let mut scopes = [0u8; 65];
     let mut waiting = 0;
-    let mut at = 0;
     let mut room = 64;
     let mut binders = 0;
-    while at < words.len() {
-        let word = words[at];
-        match tested(word, room, binders) {
-            Visit::Refused(reason) => {
-                return Subterm::Refused(Refusal { reason, place: at });
-            }
-            Visit::Passes => {
-                let left = to_byte(room - 1);
-                let first = waiting + 1;
-                rooms[waiting] = left;
-                rooms[first] = left;
-                scopes[waiting] = to_byte(binders + wide(bound(word)));
-                scopes[first] = to_byte(binders);
-                waiting += parts(word);
-                at += 1;
-                if waiting == 0 {
-                    return Subterm::Ends(at);
-                }
-                waiting -= 1;
-                room = from_byte(rooms[waiting]);
-                binders = from_byte(scopes[waiting]);
-            }
+    for (place, word) in words.iter().enumerate() {
+        if let Err(reason) = tested(*word, room, binders) {
+            return Err(Refusal { reason, place });
         }
+        let left = (room - 1) as u8;
+        let first = waiting + 1;
+        rooms[waiting] = left;
+        rooms[first] = left;
+        scopes[waiting] = (binders + usize::from(bound(*word))) as u8;
+        scopes[first] = binders as u8;
+        waiting += parts(*word);
+        if waiting == 0 {
+            return Ok(place + 1);
+        }
+        waiting -= 1;
+        room = usize::from(rooms[waiting]);
+        binders = usize::from(scopes[waiting]);
     }
-    Subterm::Refused(Refusal {
+    Err(Refusal {
         reason: Reason::ListEnds,
-        place: at,
+        place: words.len(),
     })
 }
 
 // The whole list: refusals 4–9 in document 01's order.
-pub fn read(words: &[u16]) -> Reading
-    ensures { reading_of result ≡ outcome (read words.now) }
+pub fn read(words: &[u16]) -> Result<(), Refusal>
+    ensures { answer_of result ≡ outcome (read words.now) }
 {
     let length = words.len();
-    if length == 0 {
-        return Reading::Refused(Refusal {
+    if length == 0 || 1024 < length {
+        return Err(Refusal {
             reason: Reason::LengthNotAllowed,
             place: 0,
         });
     }
-    if 1024 < length {
-        return Reading::Refused(Refusal {
-            reason: Reason::LengthNotAllowed,
-            place: 0,
+    let end = read_first(words)?;
+    if end < length {
+        return Err(Refusal {
+            reason: Reason::WordsAfter,
+            place: end,
         });
     }
-    match read_first(words) {
-        Subterm::Refused(refusal) => Reading::Refused(refusal),
-        Subterm::Ends(end) => {
-            if end < length {
-                return Reading::Refused(Refusal {
-                    reason: Reason::WordsAfter,
-                    place: end,
-                });
-            }
-            Reading::Term
-        }
-    }
+    Ok(())
 }

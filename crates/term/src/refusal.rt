@@ -1,7 +1,7 @@
 // Why a call is refused, and where (document 01, Calls).
 
 // One variant for each refusal of document 01, in the order of its numbers, and for 21 of document 02.
-#[derive(Drop)]
+#[derive(Clone, Copy, Debug, PartialEq, Eq)]
 pub enum Reason {
     LimitNotAllowed,
     WorkShort,
@@ -22,7 +22,7 @@ pub enum Reason {
     CallerNotAllowed,
 }
 
-#[derive(Drop)]
+#[derive(Clone, Copy, Debug, PartialEq, Eq)]
 pub struct Refusal {
     pub reason: Reason,
     pub place: usize,

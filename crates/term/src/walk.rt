@@ -9,13 +9,11 @@ pub fn span(words: &[u16]) -> usize
     ensures { (result ≡ span words.now 1) × (result ≤ length words.now) }
 {
     let mut left: usize = 1;
-    let mut at: usize = 0;
-    while at < words.len() {
-        left = left + parts(words[at]) - 1;
-        at += 1;
+    for (at, word) in words.iter().enumerate() {
+        left = left + parts(*word) - 1;
         if left == 0 {
-            return at;
+            return at + 1;
         }
     }
-    at
+    words.len()
 }

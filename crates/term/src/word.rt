@@ -5,7 +5,7 @@ ghost use Rattle.term.specs.Word.{arity, meaning_of, second, shape_of};
 
 // Not in the order of the words throughout: as long as a meaning is the word itself, the compiler decides by a table of jumps,
 // and a jump to an unknown place costs more than a few comparisons (docs/SHAPES.md).
-#[derive(Drop)]
+#[derive(Clone, Copy, Debug, PartialEq, Eq)]
 pub enum Meaning {
     Star,
     CastDown,
@@ -44,13 +44,13 @@ pub(crate) fn parts(word: u16) -> usize
     ensures { result ≡ arity word }
 {
     if word < 2 {
-        return wide(word);
+        return usize::from(word);
     }
     if word < 7 { 2 } else { 0 }
 }
 
 // What follows a word: the number of its parts, and how many variables it binds in the second of two.
-#[derive(Drop)]
+#[derive(Clone, Copy, Debug, PartialEq, Eq)]
 pub struct Shape {
     pub parts: usize,
     pub bound: u16,
@@ -75,11 +75,4 @@ pub fn shape_of(word: u16) -> Shape
         parts: parts(word),
         bound: bound(word),
     }
-}
-
-// A word as a place or a count.
-pub fn wide(word: u16) -> usize
-    ensures { result ≡ word }
-{
-    word as usize
 }

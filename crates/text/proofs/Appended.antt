@@ -1,57 +1,37 @@
--- Two appends in a row are one of both texts. Where the first fits, the second begins where its stores end. Where it does not,
--- the answer is at the end or past it, and the second stores nothing, wherever it begins.
-use Prim.Native.Nat.{ℕ, suc, ◌+◌, ◌-◌, ◌≤◌, ◌<◌, min}
-use mathlib.Core.List.{List, [], ◌∷◌, ◌++◌}
-use mathlib.Core.Logic.{⊎_elim}
-use mathlib.Core.Path.{◌≡◌, refl, sym, ap, ◌∙◌}
-use native.Mathlib.Nat.{eq-or-lt_of_le}
+-- What is appended in several calls is appended as one text, as far as there is room. A text that fits is there whole.
+use Prim.Native.Nat.{ℕ, zero, suc, ◌+◌, ◌-◌, ◌≤◌}
+use mathlib.Core.List.{List, [], ◌∷◌, ◌++◌, append-nil, append_assoc}
+use mathlib.Core.Path.{◌≡◌, refl, ap, ◌∙◌}
+use native.Mathlib.Nat.{zero-sub}
+use native.Mathlib.Numerals.{unary_clauses}
 use native.Mathlib.Omega.{arith}
-use lib.ListN.{length, take, drop, length-append}
-use lib.Seq.{sets, sets-eq, length-sets, set_out, take_at, drop_at}
-use Rattle.calculus.proofs.Stores.{sets_append}
-use Rattle.text.specs.Appending.{Appends, appends, behind}
+use lib.ListN.{length, take, length-append, length-take}
+use lib.Seq.{take_all}
+use Rattle.std.proofs.lemmas.List.{map-id}
+use Rattle.text.specs.Appending.{appended}
 
-sets_out : (l : List ℕ) (at : ℕ) (bs : List ℕ) → length l ≤ at → sets l at bs ≡ l
-sets_out l at [] h = refl
-sets_out l at (b ∷ bs) h = rw (set_out l at b h) (sets_out l (suc at) bs (omega arith))
+-- What fits of two texts is what fits of the first, and of the second what fits then.
+take_both : (room : ℕ) (bs cs : List ℕ) → take room bs ++ take (room - length bs) cs ≡ take room (bs ++ cs)
+take_both zero bs cs = ap (λ n. take n cs) (zero-sub (length bs))
+take_both (suc room) [] cs = simp unary_clauses refl
+take_both (suc room) (b ∷ bs) cs = simp unary_clauses (ap (λ l. b ∷ l) (take_both room bs cs))
 
-pub none : (out : List ℕ) (at : ℕ) → Appends [] out at at out
-unfolding behind
-none out at = appends (omega arith) refl
+-- Two appends in a row are one of both texts.
+pub both : (room : ℕ) (page bs cs : List ℕ) → appended room (appended room page bs) cs ≡ appended room page (bs ++ cs)
+unfolding appended
+both room page bs cs =
+    let left = room - length page in
+    let same : room - length (page ++ take left bs) ≡ left - length bs = omega (arith, length-append page (take left bs), length-take left bs) in
+    rw same (append_assoc page (take left bs) (take (left - length bs) cs) ∙ ap (λ l. page ++ l) (take_both left bs cs))
 
-pub length_appended : {bs out after : List ℕ} {at r : ℕ} → Appends bs out at r after → length after ≡ length out
-length_appended {bs} {out} {after} {at} (appends place stored) = ap length stored ∙ length-sets out at bs
+pub none : (room : ℕ) (page : List ℕ) → appended room page [] ≡ page
+unfolding appended
+none room page = ap (λ l. page ++ l) (take_all (room - length page) [] (omega arith)) ∙ append-nil page
 
--- Stores from the answered place on are stores behind all of the bytes.
-onwards : (bs cs out : List ℕ) (at : ℕ) → sets (sets out at bs) (behind bs out at) cs ≡ sets (sets out at bs) (at + length bs) cs
-unfolding behind
-onwards bs cs out at =
-    let same = length-sets out at bs in
-    let next : ℕ = at + min (length bs) (length out - at) in
-    ⊎_elim
-    (λ (e : next ≡ at + length bs). ap (λ n. sets (sets out at bs) n cs) e)
-    (λ (l : next < at + length bs).
-    sets_out (sets out at bs) next cs (omega arith) ∙ sym (sets_out (sets out at bs) (at + length bs) cs (omega arith)))
-    (eq-or-lt_of_le (omega arith))
+-- A text that fits is there whole.
+pub whole : (room : ℕ) (page bs : List ℕ) → length page + length bs ≤ room → appended room page bs ≡ page ++ bs
+unfolding appended
+whole room page bs h = ap (λ l. page ++ l) (take_all (room - length page) bs (omega arith))
 
-pub both : {bs cs out mid after : List ℕ} {at next end : ℕ}
-    → Appends bs out at next mid
-    → Appends cs mid next end after
-    → Appends (bs ++ cs) out at end after
-unfolding behind
-both {bs} {cs} {out} {mid} {after} {at} (appends p s) (appends q t) =
-    appends
-    (omega (arith, length-append bs cs, ap length s, length-sets out at bs))
-    (t ∙ rw (s, p) (onwards bs cs out at ∙ sym (sets_append out at bs cs)))
-
--- A text that fits is there whole, and what stands behind it is as it was.
-pub whole : {bs out after : List ℕ} {r : ℕ}
-    → Appends bs out 0 r after
-    → length bs ≤ length out
-    → (r ≡ length bs) × (take r after ≡ bs) × (drop r after ≡ drop r out)
-unfolding behind
-whole {bs} {out} {after} {r} (appends p s) h =
-    let end : r ≡ length bs = omega arith in
-    let next : 0 + length bs ≡ r = omega arith in
-    let now : after ≡ bs ++ drop r out = s ∙ sets-eq bs out 0 (omega arith) ∙ ap (λ n. bs ++ drop n out) next in
-    (end, ap (take r) now ∙ take_at bs (drop r out) r (sym end), ap (drop r) now ∙ drop_at bs (drop r out) r (sym end))
+-- What a call leaves behind several appends, as one text. A number is its own value.
+pub ruleset appends = (both, none, map-id)

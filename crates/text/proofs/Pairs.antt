@@ -1,16 +1,18 @@
 -- Words of two bytes each, by their index: word `i` is made of the bytes `2 * i` and `2 * i + 1`, and there are half as many words
 -- as bytes. So storing them one after the other stores them all.
-use Prim.Native.Nat.{ℕ, zero, suc, ◌+◌, ◌*◌, ◌/◌, ◌%◌, ◌≤◌, ◌<◌}
+use Prim.Native.Nat.{ℕ, zero, suc, ◌+◌, ◌*◌, ◌/◌, ◌%◌, ◌≤◌, ◌<◌, min}
 use mathlib.Core.Bool.{Bool, true, false, ◌&&◌}
-use mathlib.Core.List.{List, [], ◌∷◌}
+use mathlib.Core.List.{List, [], ◌∷◌, ◌++◌}
 use mathlib.Core.Path.{◌≡◌, refl, sym, ap, ◌∙◌}
-use borrow.Author.Tests.{le-leb, lt-leb, leb-true}
+use borrow.Author.Tests.{lt-leb, leb-true}
 use native.Mathlib.Nat.{zero-add}
 use native.Mathlib.Numerals.{add-one}
 use native.Mathlib.Omega.{arith}
 use lib.Dec.{leb, eqb}
-use lib.ListN.{length, take, drop, get_or, set, length-take}
-use lib.Seq.{sets, sets-eq, take_at, take-suc}
+use lib.ListN.{length, take, drop, get_or, set, length-take, take-append-drop}
+use lib.Seq.{sets, sets-eq, length-sets, set_out, take_at, take_all, take-suc}
+use Rattle.std.proofs.lemmas.List.{drop_all}
+use native.Mathlib.Decide.{dec_le}
 use Rattle.calculus.proofs.Stores.{sets_append}
 use Rattle.text.specs.Pairs.{pairs, allowed}
 
@@ -42,14 +44,35 @@ store_next ws l i h =
 stored : (ws l : List ℕ) (n : ℕ) → n ≡ length ws → length ws ≤ length l → take n (sets l 0 ws) ≡ ws
 stored ws l n e h = ap (take n) (sets-eq ws l 0 (omega arith)) ∙ take_at ws (drop (0 + length ws) l) n (sym e)
 
+sets_out : (l : List ℕ) (at : ℕ) (ws : List ℕ) → length l ≤ at → sets l at ws ≡ l
+sets_out l at [] h = refl
+sets_out l at (w ∷ ws) h = rw (set_out l at w h) (sets_out l (suc at) ws (omega arith))
+
+-- Of words from the start on as many are stored as there is room for.
+pub front_stored : (ws l : List ℕ) (n : ℕ) → n ≡ min (length l) (length ws) → sets (take n l) 0 (take n ws) ++ drop n l ≡ sets l 0 ws
+front_stored ws l n e =
+    let count : length (take n ws) ≡ n = omega (arith, length-take n ws) in
+    let room : length (take n l) ≡ n = omega (arith, length-take n l) in
+    let front = sets (take n l) 0 (take n ws) in
+    let all : take n front ≡ front = take_all n front (omega (arith, length-sets (take n l) 0 (take n ws))) in
+    let next : 0 + length (take n ws) ≡ n = omega arith in
+    ap (λ x. x ++ drop n l) (sym all ∙ stored (take n ws) (take n l) n (sym count) (omega arith))
+    ∙ sym (
+    ap (sets l 0) (sym (take-append-drop n ws))
+    ∙ sets_append l 0 (take n ws) (drop n ws)
+    ∙ ap (λ k. sets (sets l 0 (take n ws)) k (drop n ws)) next
+    ∙ over_room (dec_le (length ws) (length l))
+    ∙ sets-eq (take n ws) l 0 (omega arith)
+    ∙ ap (λ k. take n ws ++ drop k l) next)
+  where
+    over_room : Dec (length ws ≤ length l) → sets (sets l 0 (take n ws)) n (drop n ws) ≡ sets l 0 (take n ws)
+    over_room (yes h) = rw (drop_all n ws (omega arith)) refl
+    over_room (no h) = sets_out (sets l 0 (take n ws)) n (drop n ws) (omega (arith, length-sets l 0 (take n ws)))
+
 -- The test of the number of bytes.
 pub over : (bs : List ℕ) → 2048 < length bs → allowed bs ≡ false
 unfolding allowed
 over bs h = rw (lt-leb (length bs) 2048 h) refl
-
-pub by_parity : (bs : List ℕ) → length bs ≤ 2048 → eqb (length bs % 2) 0 ≡ allowed bs
-unfolding allowed
-by_parity bs h = rw (le-leb (length bs) 2048 h) refl
 
 first_true : (a b : Bool) → a && b ≡ true → a ≡ true
 first_true true b e = refl

@@ -1,14 +1,8 @@
--- The outcome of the calculus that the enums of a check stand for.
-use Rattle.std.specs.Prelude.{ℕ, List}
-use Rattle.calculus.specs.Answer.{Answer, ok, refused}
+-- The outcome of the calculus that what a check answers and leaves stands for.
+use Rattle.std.specs.Prelude.{ℕ, List, Result}
 use Rattle.calculus.specs.Outcomes as calculus
-use Rattle.term.specs.Reasons.{reason_of}
-use Rattle.typing.specs.declared.Checked.{Checked}
-use Rattle.typing.specs.declared.Checked.TheVariants as checked
+use Rattle.term.specs.Reasons.{answer_of}
+use Rattle.term.specs.declared.refusal.Refusal.{Refusal}
 
-abbrev pub answer_of : Checked → Answer ℕ
-answer_of (checked.Typed n) = ok n
-answer_of (checked.Refused r) = refused (reason_of r.reason) r.place
-
-abbrev pub checked_of : Checked → List ℕ → List ℕ → calculus.Checked
+abbrev pub checked_of : Result ℕ Refusal → List ℕ → List ℕ → calculus.Checked
 checked_of r work output = record { answer = answer_of r; work = work; output = output }

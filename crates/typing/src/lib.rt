@@ -1,38 +1,33 @@
 // The check (document 01, Calls): the type of a closed term within a limit, or the first rule that fails.
 #![tactic(auto)]
 
-ghost use Rattle.std.specs.Prelude.{◌≡◌};
+ghost use Rattle.std.specs.Prelude.{Err, ◌≡◌};
 ghost use Rattle.calculus.specs.Outcomes.{check};
 ghost use Rattle.typing.specs.Outcomes.{checked_of};
 
 use book::Reader;
-use inference::{Inferred, infer};
+use inference::{Check, Memory, infer};
 use kept::clearing::clear;
 use kept::keeping::spell;
-use term::reading::{Reading, read};
+use term::reading::read;
 use term::refusal::{Reason, Refusal};
 
-// Typed with the length of the type, or refused.
-#[derive(Drop)]
-pub enum Checked {
-    Typed(usize),
-    Refused(Refusal),
-}
-
-fn refused(reason: Reason) -> Checked
-    ensures { result ≡ Checked.Refused (record { reason = reason; place = 0 }) }
+fn refused(reason: Reason) -> Result<usize, Refusal>
+    ensures { result ≡ Err (record { reason = reason; place = 0 }) }
 {
-    Checked::Refused(Refusal { reason, place: 0 })
+    Err(Refusal { reason, place: 0 })
 }
 
-// A check of document 01.
-pub fn check(term: &[u16], limit: u32, work: &mut [u16], output: &mut [u16]) -> Checked
+// A check of document 01: the length of the type, which is then in the output, or the refusal.
+pub fn check(
+    term: &[u16],
+    limit: u32,
+    work: &mut [u16],
+    output: &mut [u16],
+) -> Result<usize, Refusal>
     ensures { checked_of result work.new output.new ≡ check term.now limit work.old output.old }
 {
-    if limit == 0 {
-        return refused(Reason::LimitNotAllowed);
-    }
-    if 1024 < limit {
+    if limit == 0 || 1024 < limit {
         return refused(Reason::LimitNotAllowed);
     }
     let longest = limit as usize;
@@ -42,32 +37,22 @@ pub fn check(term: &[u16], limit: u32, work: &mut [u16], output: &mut [u16]) -> 
     if output.len() < longest {
         return refused(Reason::OutputShort);
     }
-    if let Reading::Refused(refusal) = read(term) {
-        return Checked::Refused(refusal);
-    }
-    let mut context = [0u16; 64];
-    let mut held = [0u16; 4096];
+    read(term)?;
+    let check = Check {
+        term,
+        limit: longest,
+        book: &term[..0],
+        reader: Reader::Owner(0),
+    };
+    let mut memory = Memory {
+        context: [0; 64],
+        held: [0; 4096],
+    };
     let room = 1024 * longest;
-    match infer(
-        term,
-        term,
-        &mut context,
-        0,
-        &mut work[..room],
-        0,
-        longest,
-        &mut held,
-        &term[..0],
-        Reader::Owner(0),
-    ) {
-        Inferred::Refused(refusal) => {
-            clear(work, 2 * longest);
-            Checked::Refused(refusal)
-        }
-        Inferred::Typed(_, length) => {
-            spell(&work[..2 * length], output);
-            clear(work, 2 * longest);
-            Checked::Typed(length)
-        }
+    let found = infer(&check, term, 0, &mut memory, &mut work[..room], 0).map(|typed| typed.length);
+    if let Ok(length) = found {
+        spell(&work[..2 * length], output);
     }
+    clear(work, 2 * longest);
+    found
 }

@@ -41,10 +41,6 @@ returns-then-lent c =
     from_lent a.book.now a.work.now a.other.now a.count c.step.result c.step.new.out c.if-lent.true c.requires.1 c.step.ensures in
     record { advances = moved.0; other_unchanged = moved.1 }
 
-pub slice_bounds-step-end-5 : goal.slice_bounds-step-end-5
-slice_bounds-step-end-5 c =
-    sym (length-take-le (2 * longest) c.args.work.now c.requires.0)
-
 pub step-requires-2 : goal.step-requires-2
 step-requires-2 c =
     let room = length-take-le (2 * longest) c.args.work.now c.requires.0 in
@@ -58,9 +54,3 @@ returns c =
     from_other a.book.now a.work.now a.other.now a.count c.step-2.result c.step-2.new.out c.if-lent.false c.requires.0
     c.step-2.auto.out c.step-2.ensures in
     record { advances = moved.0; other_unchanged = moved.1 }
-
-pub slice_bounds-step-end-then-lent : goal.slice_bounds-step-end-then-lent
-slice_bounds-step-end-then-lent c = held_length (lent c).3
-
-pub slice_bounds-step-end-3 : goal.slice_bounds-step-end-3
-slice_bounds-step-end-3 c = held_length (other c).3

@@ -6,9 +6,6 @@ use native.Mathlib.Omega.{arith}
 use Rattle.calculus.specs.Kinds.{counts, counting, total}
 use Rattle.evaluation.proofs.counted.Goals as goal
 
-pub overflow_add-steps : goal.overflow_add-steps
-overflow_add-steps c = omega (arith, c.requires.0)
-
 pub overflow_add-steps-in-Substitution : goal.overflow_add-steps-in-Substitution
 unfolding total
 overflow_add-steps-in-Substitution c = omega (arith, c.requires)

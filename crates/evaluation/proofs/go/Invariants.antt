@@ -1,9 +1,7 @@
 -- `go` meets its contract. The loop's invariant: with the steps taken so far, the run has reached the state at the front of the
 -- buffer that `lent` tells, and the working slice is as it was behind the room for a state. The measure is what is left of the
 -- grant.
-use Prim.Native.Nat.{◌-◌, ◌*◌, ◌≤◌}
-use mathlib.Core.Path.{◌≡◌}
-use lib.ListN.{length, drop}
+use Rattle.std.proofs.Common.{◌-◌, ◌*◌, ◌≤◌, ◌≡◌, length, drop}
 use Rattle.calculus.specs.Term.{Term}
 use Rattle.calculus.specs.Words.{longest}
 use Rattle.calculus.specs.Book.{Book}
@@ -16,8 +14,6 @@ abbrev pub invariant-loop-steps : goal.invariant-loop-steps
 invariant-loop-steps l =
     (l.steps.total ≤ l.grant)
     × AddUp l.steps
-    × (length l.work ≡ length l.initial.work)
-    × (length l.other ≡ 2 * longest)
     × (drop (2 * longest) l.work ≡ drop (2 * longest) l.initial.work)
     × ((B : Book) (t : Term)
     → layout.Holds B l.book

@@ -1,7 +1,5 @@
 -- `last_end` meets its contract: where there is no redex the state is a value or stuck, and where there is one it steps.
-use Prim.Native.Nat.{ℕ}
-use mathlib.Core.Logic.{◌⊎◌, inl, inr}
-use mathlib.Core.Path.{◌≡◌, refl, sym, ap, ◌∙◌}
+use Rattle.std.proofs.Common.{ℕ, ◌≡◌, refl, sym, ap, ◌∙◌, Ok, Err}
 use Rattle.calculus.specs.Term.{Term}
 use Rattle.calculus.specs.Book.{View, bodies}
 use Rattle.calculus.specs.Kinds.{Kind}
@@ -9,6 +7,7 @@ use Rattle.calculus.specs.Step.{next, under, applied, cancelled, unfolded, step}
 use Rattle.calculus.specs.Run.{spent, last_end}
 use Rattle.reduction.specs.declared.stepping.Redex.{Redex}
 use Rattle.reduction.specs.declared.stepping.Redex.TheVariants as redex
+use Rattle.reduction.specs.declared.stepping.Rest.TheVariants as rest
 use Rattle.reduction.specs.Stepping.{locate}
 use Rattle.reduction.proofs.Frames.{step_around}
 use Rattle.reduction.proofs.Redexes.{Inside, splits_at}
@@ -19,27 +18,23 @@ goes_on : (v : View) {x s y : Term} {n : ℕ} {k : Kind} → Inside x n s → st
 unfolding last_end
 goes_on v {y} i h = rw (step_around v (i.around y) h) refl
 
-with_redex : (v : View) (x : Term) (r : Redex)
-    → locate v x ≡ r
-    → ((n : ℕ) × r ≡ redex.Beta n) ⊎ (((n : ℕ) × r ≡ redex.Cancel n) ⊎ (((n : ℕ) × r ≡ redex.Unfold n) ⊎ ((n : ℕ) × r ≡ redex.Name n)))
-    → spent ≡ last_end (step v x)
+with_redex : (v : View) (x : Term) (r : Redex) → locate v x ≡ Ok r → spent ≡ last_end (step v x)
 unfolding step under applied cancelled unfolded
-with_redex v x r e (inl (n, k)) = goes_on v (splits_at v x (e ∙ k)).3 refl
-with_redex v x r e (inr (inl (n, k))) = goes_on v (splits_at v x (e ∙ k)).2 refl
-with_redex v x r e (inr (inr (inl (n, k)))) = goes_on v (splits_at v x (e ∙ k)).2 refl
-with_redex v x r e (inr (inr (inr (n, k)))) =
-    let (i, d, shown, there) = splits_at v x (e ∙ k) in goes_on v there (ap unfolded shown)
+with_redex v x (redex.Beta n) e = goes_on v (splits_at v x e).3 refl
+with_redex v x (redex.Cancel n) e = goes_on v (splits_at v x e).2 refl
+with_redex v x (redex.Unfold n) e = goes_on v (splits_at v x e).2 refl
+with_redex v x (redex.Name n) e = let (i, d, shown, there) = splits_at v x e in goes_on v there (ap unfolded shown)
 
-pub returns-in-Value : goal.returns-in-Value
+pub returns-in-Ok : goal.returns-in-Ok
+returns-in-Ok c B x held keeps =
+    with_redex (bodies B) x c.in-Ok.field-0 (sym (c.find_redex.ensures B x held keeps) ∙ c.in-Ok.is)
+
+pub returns-in-Err-Value : goal.returns-in-Err-Value
 unfolding last_end
-returns-in-Value c B x held keeps =
-    rw (splits_at (bodies B) x (sym (c.find_redex.ensures B x held keeps) ∙ c.in-Value.is)) refl
+returns-in-Err-Value c B x held keeps =
+    let at : locate (bodies B) x ≡ Err rest.Value = cc (c.find_redex.ensures B x held keeps) in rw (splits_at (bodies B) x at) refl
 
-pub returns-in-Stuck : goal.returns-in-Stuck
+pub returns-in-Err-Stuck : goal.returns-in-Err-Stuck
 unfolding last_end
-returns-in-Stuck c B x held keeps =
-    rw (splits_at (bodies B) x (sym (c.find_redex.ensures B x held keeps) ∙ c.in-Stuck.is)) refl
-
-pub returns-in-Beta : goal.returns-in-Beta
-returns-in-Beta c B x held keeps =
-    with_redex (bodies B) x c.find_redex.result (sym (c.find_redex.ensures B x held keeps)) c.in-Beta.is
+returns-in-Err-Stuck c B x held keeps =
+    let at : locate (bodies B) x ≡ Err rest.Stuck = cc (c.find_redex.ensures B x held keeps) in rw (splits_at (bodies B) x at) refl

@@ -3,7 +3,7 @@
 -- calculus' course.
 use Prim.Native.Nat.{◌*◌, ◌≤◌}
 use mathlib.Core.List.{[]}
-use mathlib.Core.Path.{◌≡◌, sym, ◌∙◌, ap, subst}
+use mathlib.Core.Path.{◌≡◌, refl, sym, ap, subst}
 use native.Mathlib.Omega.{arith}
 use lib.ListN.{length}
 use Rattle.calculus.specs.Term.{Term}
@@ -14,13 +14,13 @@ use Rattle.calculus.specs.Run.{run_from}
 use Rattle.calculus.specs.Outcomes.{grant}
 use Rattle.calculus.specs.Runs.{caller_refused, work_refused, state_refused, unread}
 use Rattle.calculus.proofs.ReadBack.{refused_misread}
-use Rattle.term.specs.Subterms.{reading_of}
+use Rattle.std.specs.Prelude.{Err}
 use Rattle.term.proofs.Walking.{reads_term, reads_refusal}
 use Rattle.book.proofs.Entries.{holds_nothing}
 use Rattle.evaluation.specs.Courses.{Performs}
 use Rattle.evaluation.proofs.Answers.{meets_refusal, steps_within, meets_course}
 use Rattle.evaluation.proofs.run.Goals as goal
-use Rattle.evaluation.proofs.run.Goals.{After-perform-course, In_default, Joined-budget-allowance, then-budget-allowance, else-budget-allowance}
+use Rattle.evaluation.proofs.run.Goals.{After-min-grant, After-perform-course, In_default}
 
 -- What is read.
 term_read : (c : goal.In_default)
@@ -28,23 +28,18 @@ term_read : (c : goal.In_default)
     (t : Term) × (a.term.now ≡ words t) × Readable 0 t
 term_read c =
     let a = c.args in
-    reads_term a.term.now (sym c.read.ensures ∙ ap reading_of c.in_default.is)
+    reads_term a.term.now (sym c.in_default.ensures)
 
 -- The grant.
-granted : (c : goal.Joined-budget-allowance)
+granted : (c : goal.After-min-grant)
     → let a = c.args in
-    c.if-budget-allowance.grant ≡ grant a.budget a.caller a.desk.allowances
-granted c =
-    let e = c.allowance_of-allowance.ensures in
-    elim c.if-budget-allowance.branch [
-      | then-budget-allowance w ↦ omega (arith, e)
-      | else-budget-allowance w ↦ omega (arith, e)
-    ]
+    c.min-grant.result ≡ grant a.budget a.caller a.desk.allowances
+granted c = cc
 
 -- The course, over the empty book.
 performed : (c : goal.After-perform-course) {t : Term}
     → let a = c.args in
-    c.if-budget-allowance.grant ≡ grant a.budget a.caller a.desk.allowances
+    c.min-grant.result ≡ grant a.budget a.caller a.desk.allowances
     → a.term.now ≡ words t
     → Readable 0 t
     → Performs (run_from (step (bodies [])) (grant a.budget a.caller a.desk.allowances) t) a.work.now a.state.now
@@ -83,15 +78,15 @@ returns-then-state-lt1024 c =
     c.refused-then-state-lt1024.ensures.0 (ap (λ d. d.allowances) c.refused-then-state-lt1024.ensures.1) in
     record { outcome = met.0; safety = met.1 }
 
-pub returns-in-Refused : goal.returns-in-Refused
-returns-in-Refused c =
+pub returns-in-Err : goal.returns-in-Err
+returns-in-Err c =
     let a = c.args in
-    let told = sym c.read.ensures ∙ ap reading_of c.in-Refused.is in
+    let told = sym c.in-Err.ensures in
     let misread = refused_misread a.term.now _ _ (reads_refusal a.term.now told) in
     let met =
     meets_refusal a.term.now a.budget a.caller a.desk.allowances a.work.now a.state.now
-    c.refused-in-Refused.result (unread c.if-caller-gt7.false c.if-work-lt8192.false c.if-state-lt1024.false misread)
-    c.refused-in-Refused.ensures.0 (ap (λ d. d.allowances) c.refused-in-Refused.ensures.1) in
+    (record { answer = Err c.in-Err.refusal; desk = a.desk })
+    (unread c.if-caller-gt7.false c.if-work-lt8192.false c.if-state-lt1024.false misread) refl refl in
     record { outcome = met.0; safety = met.1 }
 
 pub perform-course-requires : goal.perform-course-requires
@@ -105,18 +100,18 @@ pub settle-requires : goal.settle-requires
 settle-requires c =
     let (t, e, r) = term_read (goal.at.settle-requires c).In_default in
     let course = c.perform-course.ensures [] t (holds_nothing _) e r in
-    let within = steps_within [] c.if-budget-allowance.grant r course in
+    let within = steps_within [] c.min-grant.result r course in
     record {
       run_room_in_bounds = omega (arith, c.if-work-lt8192.false, c.perform-course.auto.work);
       caller_le_last_caller =
-          (c.if-caller-gt7.false, omega (arith, within, granted (goal.at.settle-requires c).Joined-budget-allowance));
+          (c.if-caller-gt7.false, omega (arith, within, granted (goal.at.settle-requires c).After-min-grant));
     }
 
 pub returns : goal.returns
 returns c =
     let a = c.args in
     let (t, e, r) = term_read (goal.at.returns c).In_default in
-    let g = granted (goal.at.returns c).Joined-budget-allowance in
+    let g = granted (goal.at.returns c).After-min-grant in
     let met =
     meets_course a.term.now a.budget a.caller a.desk.allowances a.work.now a.state.now e r
     (performed (goal.at.returns c).After-perform-course g e r) c.if-caller-gt7.false c.if-work-lt8192.false c.if-state-lt1024.false

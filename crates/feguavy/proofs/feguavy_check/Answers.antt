@@ -8,21 +8,21 @@ use Rattle.feguavy.proofs.feguavy_check.Goals.{After-check}
 pub overflow_cast-result : goal.overflow_cast-result
 overflow_cast-result c =
     let a = c.args in
-    let h = length_within a.term.now a.limit a.work.now a.output.now c.check.result c.check.ensures _ c.in-Typed.is in
+    let h = length_within a.term.now a.limit a.work.now a.output.now c.check.result c.check.ensures _ c.in-Ok.is in
     omega arith
 
-pub overflow_cast-result-in-Refused : goal.overflow_cast-result-in-Refused
-overflow_cast-result-in-Refused c =
+pub overflow_cast-result-in-Err : goal.overflow_cast-result-in-Err
+overflow_cast-result-in-Err c =
     let a = c.args in
-    let h = untyped_place a.term.now a.limit a.work.now a.output.now c.check.result c.check.ensures _ c.in-Refused.is in
+    let h = untyped_place a.term.now a.limit a.work.now a.output.now c.check.result c.check.ensures _ c.in-Err.is in
     omega arith
 
-pub returns-in-Typed : goal.returns-in-Typed
-returns-in-Typed c =
+pub returns-in-Ok : goal.returns-in-Ok
+returns-in-Ok c =
     let k = c.check in
-    typed_numbers k.result k.ensures _ c.in-Typed.is
+    typed_numbers k.result k.ensures _ c.in-Ok.is
 
-pub returns-in-Refused : goal.returns-in-Refused
-returns-in-Refused c =
+pub returns-in-Err : goal.returns-in-Err
+returns-in-Err c =
     let k = c.check in
-    untyped_numbers k.result k.ensures _ _ c.in-Refused.is c.number.ensures
+    untyped_numbers k.result k.ensures _ _ c.in-Err.is c.number.ensures

@@ -11,17 +11,17 @@ use Rattle.feguavy.proofs.feguavy_run.Goals.{After-run-outcome}
 pub overflow_cast-result : goal.overflow_cast-result
 overflow_cast-result c =
     let a = c.args in
-    let h = unrun_place a.term.now a.budget a.caller a.desk.allowances a.work.now a.state.now c.run-outcome.result c.run-outcome.ensures.outcome _ c.in-Refused.is in
+    let h = unrun_place a.term.now a.budget a.caller a.desk.allowances a.work.now a.state.now c.run-outcome.result c.run-outcome.ensures.outcome _ c.in-Err.is in
     omega arith
 
-pub returns-in-Ended : goal.returns-in-Ended
-returns-in-Ended c =
+pub returns-in-Ok : goal.returns-in-Ok
+returns-in-Ok c =
     let k = c.run-outcome in
-    let numbered = ended_numbers k.result k.ensures.outcome _ _ _ c.in-Ended.is c.number_of_end.ensures in
+    let numbered = ended_numbers k.result k.ensures.outcome _ _ c.in-Ok.is c.number_of_end.ensures in
     record { outcome = numbered; safety = (_, numbered, demand3.0 [] [] nothing_added nothing_added _ _ _ _ _ _) }
 
-pub returns-in-Refused : goal.returns-in-Refused
-returns-in-Refused c =
+pub returns-in-Err : goal.returns-in-Err
+returns-in-Err c =
     let k = c.run-outcome in
-    let numbered = unrun_numbers k.result k.ensures.outcome _ _ c.in-Refused.is c.number.ensures in
+    let numbered = unrun_numbers k.result k.ensures.outcome _ _ c.in-Err.is c.number.ensures in
     record { outcome = numbered; safety = (_, numbered, demand3.0 [] [] nothing_added nothing_added _ _ _ _ _ _) }

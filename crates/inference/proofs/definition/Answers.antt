@@ -8,25 +8,25 @@ use Rattle.calculus.specs.Book.{Definition}
 use Rattle.calculus.proofs.Coding.{words_length}
 use Rattle.book.specs.Layout.{Defines}
 use Rattle.inference.specs.Inference.{inferred_of}
-use Rattle.inference.specs.declared.Inferred.TheVariants as inferred
+use Rattle.std.specs.Prelude.{Ok}
 use Rattle.inference.proofs.definition.Goals as goal
 use Rattle.inference.proofs.definition.Goals.{After-stored_type-stored, Start}
 
 -- What was looked up is the stored type.
 module _ (c : goal.After-stored_type-stored) {d : Definition}
-    (h : Defines d c.args.number c.args.book.now) where
+    (h : Defines d c.args.number c.args.check.now.book.now) where
   looked_up : c.stored_type-stored.result.now ≡ words d.type
-  looked_up = c.stored_type-stored.ensures d (rw c.wide.ensures h)
+  looked_up = c.stored_type-stored.ensures d (rw c.from.ensures h)
 
   measured : length c.stored_type-stored.result.now ≡ size d.type
   measured = ap length looked_up ∙ words_length d.type
 
 pub stored_type-stored-requires : goal.stored_type-stored-requires
-stored_type-stored-requires c = let (d, h) = c.requires.2 in (d, rw c.wide.ensures h)
+stored_type-stored-requires c = let (d, h) = c.requires.2 in (d, rw c.from.ensures h)
 
-pub returns-then-limit-stored : goal.returns-then-limit-stored
-returns-then-limit-stored c = λ d h.
-    let long = measured (goal.at.returns-then-limit-stored c).After-stored_type-stored h in
+pub returns-then-check-stored : goal.returns-then-check-stored
+returns-then-check-stored c = λ d h.
+    let long = measured (goal.at.returns-then-check-stored c).After-stored_type-stored h in
     record { fits = λ n. absurd (omega arith); over = λ n. ap inferred_of c.refused.ensures }
 
 pub note-requires : goal.note-requires
@@ -41,6 +41,6 @@ returns c = λ d h.
     let v = (goal.at.returns c).After-stored_type-stored in
     let long = measured v h in
     record {
-      fits = λ n. (ap (inferred.Typed 1) long, c.note.ensures d.type (looked_up v h));
+      fits = λ n. (ap (λ k. Ok (record { read = 1; length = k })) long, c.note.ensures d.type (looked_up v h));
       over = λ n. absurd (omega arith);
     }

@@ -13,18 +13,18 @@ use Rattle.kept.proofs.InPlace.{fits_worded}
 use Rattle.inference.proofs.variable.Goals as goal
 use Rattle.inference.proofs.variable.Goals.{After-note, After-raise, After-span-length, Start}
 
-pub returns-then-limit-length : goal.returns-then-limit-length
-returns-then-limit-length c = λ a k.
+pub returns-then-check-length : goal.returns-then-check-length
+returns-then-check-length c = λ a k.
     let long = annotation_span k in
     record { fits = λ h. absurd (omega arith); over = λ h. ap inferred_of c.refused.ensures }
 
 -- The annotation is measured.
 module _ (c : goal.After-span-length) {a : Term}
-    (k : Annotation a c.args.index c.args.term.now c.args.from) where
+    (k : Annotation a c.args.index c.args.check.now.term.now c.args.from) where
   measured : c.span-length.result ≡ size a
   measured = c.span-length.ensures.0 ∙ annotation_span k
 
-  cut : take (c.args.from + c.span-length.result - c.args.from) (drop c.args.from c.args.term.now) ≡ words a
+  cut : take (c.args.from + c.span-length.result - c.args.from) (drop c.args.from c.args.check.now.term.now) ≡ words a
   cut =
       annotation_words k (c.args.from + c.span-length.result - c.args.from) (omega (arith, measured))
 
@@ -44,8 +44,8 @@ raise-requires c =
     let g = c.args in
     let noted = c.note.ensures k.0 (cut v k.1) in
     let same = measured v k.1 in
-    let few = c.if-limit-length.false in
-    let whole = annotation_noted k.1 g.work.now g.top g.limit v.span-length.result same few c.requires.1 noted in
+    let few = c.if-check-length.false in
+    let whole = annotation_noted k.1 g.work.now g.top g.check.now.limit v.span-length.result same few c.requires.1 noted in
     ((k.0, whole, annotation_fits k.1), omega (arith, k.1.near))
 
 pub returns : goal.returns
@@ -54,7 +54,7 @@ returns c = λ a k.
     let g = c.args in
     let same = measured v k in
     let noted = c.note.ensures a (cut v k) in
-    let few = c.if-limit-length.false in
-    let whole = annotation_noted k g.work.now g.top g.limit v.span-length.result same few c.requires.1 noted in
-    raises k g.work.now g.top g.limit v.span-length.result same few c.requires.1 noted g.place
+    let few = c.if-check-length.false in
+    let whole = annotation_noted k g.work.now g.top g.check.now.limit v.span-length.result same few c.requires.1 noted in
+    raises k g.work.now g.top g.check.now.limit v.span-length.result same few c.requires.1 noted g.place
     (c.raise.ensures a whole (fits_worded (annotation_fits k)))

@@ -3,8 +3,8 @@ use mathlib.Core.Path.{refl}
 use Rattle.modules.specs.Files.{unreadable, held, tells}
 use Rattle.modules.proofs.answered.Goals as goal
 
-pub returns-then-got-ne0 : goal.returns-then-got-ne0
-returns-then-got-ne0 g c = tells (unreadable c.load-got.result.error) (record { text = c.unreadable.ensures; work = refl })
+pub returns-in-Ok : goal.returns-in-Ok
+returns-in-Ok g c = tells (held c.front.result.now) c.judged.ensures
 
-pub returns : goal.returns
-returns g c = tells (held c.filled.result.now) c.judged.ensures
+pub returns-in-Err : goal.returns-in-Err
+returns-in-Err g c = tells (unreadable c.in-Err.error.number) (record { text = c.unreadable.ensures; work = refl })

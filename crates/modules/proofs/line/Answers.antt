@@ -3,4 +3,4 @@ use Rattle.modules.proofs.Filing.{with_path}
 use Rattle.modules.proofs.line.Goals as goal
 
 pub returns : goal.returns
-returns g c = with_path c.answered-end.ensures c.byte-tabbed.ensures c.bytes-named.ensures c.byte.ensures
+returns g c = with_path c.answered.ensures c.byte.ensures c.text.ensures c.byte-2.ensures

@@ -4,5 +4,5 @@ use mathlib.Core.Path.{sym}
 use lib.ListN.{length-replicate}
 use Rattle.modules.proofs.main.Goals as goal
 
-pub slice_bounds-serve-end-3 : goal.slice_bounds-serve-end-3
-slice_bounds-serve-end-3 c = sym (length-replicate {A = ℕ} 1048576 0)
+pub slice_bounds-serve-end-2 : goal.slice_bounds-serve-end-2
+slice_bounds-serve-end-2 c = sym (length-replicate {A = ℕ} 1048576 0)

@@ -4,8 +4,8 @@ use mathlib.Core.List.{List}
 use mathlib.Core.Path.{sym, ap, ◌∙◌}
 use lib.ListN.{length, take, replicate, length-replicate}
 use Rattle.text.proofs.Pairs.{all_stored}
-use Rattle.report.specs.Report.{outcome}
-use Rattle.report.proofs.Admitting.{not_admitted, not_allowed, admitted}
+use Rattle.report.specs.Report.{judged, told}
+use Rattle.report.proofs.Admitting.{not_allowed, admitted}
 use Rattle.report.proofs.answer.Goals as goal
 
 pub returns-then-allowed : goal.returns-then-allowed
@@ -15,11 +15,8 @@ returns-then-allowed c =
     let zeros : List ℕ = replicate 1024 0 in
     let term = c.front.ensures ∙ ap (take (length bytes / 2)) c.of_bytes.ensures
     ∙ all_stored bytes zeros words (length-replicate {A = ℕ} 1024 0) in
-    rw (term, ← admitted bytes words) at c.judge.ensures
+    c.judge.ensures ∙ ap (λ ws. told (judged ws)) term ∙ ap told (sym (admitted bytes words))
 
 pub returns : goal.returns
 returns c =
-    let bytes = c.args.bytes.now in
-    rw c.refused.ensures
-    (not_allowed (outcome bytes) c.args.output.now c.args.state.now
-    (not_admitted bytes (sym c.allowed.ensures ∙ c.if-allowed.false)))
+    c.refused.ensures ∙ not_allowed c.args.bytes.now (sym c.allowed.ensures ∙ c.if-allowed.false)

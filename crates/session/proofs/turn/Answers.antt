@@ -1,13 +1,16 @@
 -- `turn` meets its contract: what is read is not known, and what is then done with it is.
-use Rattle.session.specs.Sessions.{unreadable, finished}
-use Rattle.session.proofs.Taking.{turns_on}
+use Rattle.std.proofs.Common.{rules}
+use Rattle.session.specs.Sessions.{unreadable, finished, failed, going_on}
 use Rattle.session.proofs.turn.Goals as goal
 
-pub returns-then-got-ne0 : goal.returns-then-got-ne0
-returns-then-got-ne0 g c = unreadable
+pub returns-in-Ok-eq0 : goal.returns-in-Ok-eq0
+returns-in-Ok-eq0 g c = finished c.finished-last.ensures
 
-pub returns-then-got-eq0 : goal.returns-then-got-eq0
-returns-then-got-eq0 g c = finished c.finished-last.ensures
+pub returns-then-is_some : goal.returns-then-is_some
+returns-then-is_some g c = failed _ c.take_chunk-after.ensures (search rules)
+
+pub returns-in-Ok : goal.returns-in-Ok
+returns-in-Ok g c = going_on _ c.take_chunk-after.ensures (search rules)
 
 pub returns : goal.returns
-returns g c = turns_on c.take_chunk.ensures c.going_on.ensures
+returns g c = unreadable

@@ -1,7 +1,7 @@
 -- `check` meets its contract. Each way out is one case of the demand on checks, whose premises are the tests passed on the way.
-use Prim.Native.Nat.{◌-◌}
+use Prim.Native.Nat.{ℕ, ◌-◌}
 use mathlib.Core.List.{[]}
-use mathlib.Core.Path.{◌≡◌, refl, sym, ap, ◌∙◌}
+use mathlib.Core.Path.{◌≡◌, refl, sym, ◌∙◌}
 use native.Mathlib.Omega.{arith}
 use borrow.Author.Rules.{rules}
 use lib.ListN.{length}
@@ -9,18 +9,16 @@ use lib.Seq.{length-take-le}
 use Rattle.calculus.specs.Term.{Term}
 use Rattle.calculus.specs.Words.{words, Readable}
 use Rattle.calculus.specs.Outcomes.{check_room}
+use Rattle.std.specs.Prelude.{Ok}
+use Rattle.inference.specs.declared.Typed.{Typed}
 use Rattle.calculus.specs.Checks.{limit_refused, work_refused, output_refused}
-use Rattle.term.specs.Subterms.{reading_of}
 use Rattle.term.proofs.Walking.{reads_term}
-use Rattle.typing.proofs.Checking.{Admitted, Asked, refused_out, unread_out, whole, roomy, untyped_out, type_within, type_kept, type_fits, typed_out}
+use Rattle.typing.proofs.Checking.{Admitted, Asked, ok_behind, err_behind, refused_out, unread_out, whole, roomy, untyped_out, type_within, type_kept, type_fits, typed_out}
 use Rattle.typing.proofs.check.Goals as goal
-use Rattle.typing.proofs.check.Goals.{After-infer, Else-output-longest, In_default}
+use Rattle.typing.proofs.check.Goals.{After-infer, After-map-found, Else-output-longest, In_ok-read, in-Ok, in_default}
 
 pub returns-then-limit-eq0 : goal.returns-then-limit-eq0
 returns-then-limit-eq0 c = refused_out c.refused.ensures (limit_refused (λ h. omega arith))
-
-pub returns-then-limit-gt1024 : goal.returns-then-limit-gt1024
-returns-then-limit-gt1024 c = refused_out c.refused-then-limit-gt1024.ensures (limit_refused (λ h. omega arith))
 
 pub returns-then-work-longest : goal.returns-then-work-longest
 returns-then-work-longest c = refused_out c.refused-then-work-longest.ensures (work_refused (omega arith) c.if-work-longest.true)
@@ -35,22 +33,16 @@ admitted : (c : goal.Else-output-longest)
     Admitted a.limit a.work.now a.output.now
 admitted c = record { allowed = omega arith; room = c.if-work-longest.false; out = c.if-output-longest.false }
 
-pub returns-in-Refused : goal.returns-in-Refused
-returns-in-Refused c =
-    let ws = c.args.term.now in
-    unread_out
-    ws
-    c.in-Refused.refusal
-    (admitted (goal.at.returns-in-Refused c).Else-output-longest)
-    (sym c.read.ensures ∙ ap reading_of c.in-Refused.is)
+pub returns-in_err-read : goal.returns-in_err-read
+returns-in_err-read c =
+    unread_out c.args.term.now _ _ (admitted (goal.at.returns-in_err-read c).Else-output-longest) c.in_err-read.ensures c.from_residual.ensures.1
 
 -- Past reading.
-term_read : (c : goal.In_default)
+term_read : (c : goal.In_ok-read)
     → let ws = c.args.term.now in
     (t : Term) × (ws ≡ words t) × Readable 0 t
 term_read c =
-    let ws = c.args.term.now in
-    reads_term ws (sym c.read.ensures ∙ ap reading_of c.in_default.is)
+    reads_term c.args.term.now (sym c.in_ok-read.ensures)
 
 pub slice_bounds-infer-end-2 : goal.slice_bounds-infer-end-2
 slice_bounds-infer-end-2 c =
@@ -61,8 +53,8 @@ slice_bounds-infer-end-2 c =
 pub infer-requires : goal.infer-requires
 infer-requires c =
     let A = admitted (goal.at.infer-requires c).Else-output-longest in
-    let g = term_read (goal.at.infer-requires c).In_default in
-    record { held_len = refl; asks = ([], g.0, whole A g.1 g.2 _ refl, roomy A g.1 g.2) }
+    let g = term_read (goal.at.infer-requires c).In_ok-read in
+    ([], g.0, whole A g.1 g.2 _ refl, roomy A g.1 g.2)
 
 -- Past inference.
 asked : (c : goal.After-infer)
@@ -85,30 +77,42 @@ asked c A g =
       same = c.infer.auto.work;
     }
 
+-- The length of the type that was found.
+typed : (c : goal.After-map-found) {n : ℕ} → c.map-found.result ≡ Ok n → (x : Typed) × (c.infer.result ≡ Ok x) × (n ≡ x.length)
+typed c {n} q =
+    let (x, e, h) = ok_behind _ c.infer.result c.map-found.result c.map-found.ensures.cases q in
+    (x, e, grind arith)
+
 pub slice_bounds-spell-end : goal.slice_bounds-spell-end
 slice_bounds-spell-end c =
-    type_within (asked (goal.at.slice_bounds-spell-end c).After-infer (admitted (goal.at.slice_bounds-spell-end c).Else-output-longest) (term_read (goal.at.slice_bounds-spell-end c).In_default)) c.in-Typed.is
+    let p = goal.at.slice_bounds-spell-end c in
+    let x = typed p.After-map-found c.in-Ok.is in
+    type_within (asked p.After-infer (admitted p.Else-output-longest) (term_read p.In_ok-read)) x.1 x.2
 
-pub overflow_mul-length : goal.overflow_mul-length
-overflow_mul-length c =
-    let within =
-    type_within (asked (goal.at.overflow_mul-length c).After-infer (admitted (goal.at.overflow_mul-length c).Else-output-longest) (term_read (goal.at.overflow_mul-length c).In_default)) c.in-Typed.is in
-    search rules
+pub slice_bounds-spell-end-in-Ok : goal.slice_bounds-spell-end-in-Ok
+slice_bounds-spell-end-in-Ok c = sym (length-take-le _ _ (slice_bounds-spell-end c))
 
 pub spell-requires : goal.spell-requires
 spell-requires c =
-    let a = asked (goal.at.spell-requires c).After-infer (admitted (goal.at.spell-requires c).Else-output-longest) (term_read (goal.at.spell-requires c).In_default) in
-    let q = c.in-Typed.is in
-    (_, type_kept a q, type_fits a q)
+    let p = goal.at.spell-requires c in
+    let x = typed p.After-map-found c.in-Ok.is in
+    let a = asked p.After-infer (admitted p.Else-output-longest) (term_read p.In_ok-read) in
+    (_, type_kept a x.1 x.2, type_fits a x.1 x.2)
 
-pub returns-in-Refused-infer : goal.returns-in-Refused-infer
-returns-in-Refused-infer c =
-    untyped_out (asked (goal.at.returns-in-Refused-infer c).After-infer (admitted (goal.at.returns-in-Refused-infer c).Else-output-longest) (term_read (goal.at.returns-in-Refused-infer c).In_default)) c.in-Refused-infer.is c.clear.ensures
+pub overflow_mul-length : goal.overflow_mul-length
+overflow_mul-length c =
+    let within = slice_bounds-spell-end c in
+    search rules
 
-pub returns-in-Typed : goal.returns-in-Typed
-returns-in-Typed c =
-    typed_out (asked (goal.at.returns-in-Typed c).After-infer (admitted (goal.at.returns-in-Typed c).Else-output-longest) (term_read (goal.at.returns-in-Typed c).In_default)) c.in-Typed.is c.spell.ensures
-    c.clear-in-Typed.ensures
-
-pub slice_bounds-spell-end-in-Typed : goal.slice_bounds-spell-end-in-Typed
-slice_bounds-spell-end-in-Typed c = sym (length-take-le _ _ (slice_bounds-spell-end c))
+pub returns : goal.returns
+returns c =
+    let p = goal.at.returns c in
+    let a = asked p.After-infer (admitted p.Else-output-longest) (term_read p.In_ok-read) in
+    elim c.match-found.branch [
+      | in-Ok w ↦
+          let x = typed p.After-map-found w.in-Ok.is in
+          typed_out a x.1 x.2 w.found-is w.output-is w.spell.ensures c.clear.ensures
+      | in_default w ↦
+          let e = err_behind _ c.infer.result c.map-found.result c.map-found.ensures.cases w.in_default.is in
+          untyped_out a e (w.found-is ∙ w.in_default.is) w.output-is c.clear.ensures
+    ]

@@ -1,23 +1,14 @@
-use Prim.Native.Nat.{◌+◌}
-use native.Mathlib.Omega.{arith}
-use Rattle.inference.proofs.Alike.{Tells, tells_more, tells_differing, tells_all, tells_longer}
+-- `same` meets its contract: lists of different lengths differ, and those of one length are compared by the fold.
+use Rattle.std.proofs.Common.{rules}
+use borrow.Author.Tests.{tests}
+use Rattle.std.proofs.lemmas.Iterator.{YieldsList-from_slice, YieldsList-from_zip, items_from_drains}
+use Rattle.inference.proofs.Alike.{alike_all}
 use Rattle.inference.proofs.comparing.same.Goals as goal
-use Rattle.inference.proofs.comparing.same.Goals.{then-first-i, else-first-i}
 
-pub returns-then-second-count : goal.returns-then-second-count
-returns-then-second-count c = tells_longer c.args.first.now c.args.second.now c.if-second-count.true
-
-pub loop-i-preserved : goal.loop-i-preserved
-loop-i-preserved c =
+pub returns-then-first-second : goal.returns-then-first-second
+returns-then-first-second c =
     let a = c.args in
-    let l = c.loop-i in
-    let told : Tells a.first.now a.second.now (l.i + 1) c.if-first-i.alike = elim c.if-first-i.branch [
-      | then-first-i w ↦ rw w.alike-is (tells_differing a.first.now a.second.now l.i w.if-first-i.true)
-      | else-first-i w ↦ rw w.alike-is (tells_more a.first.now a.second.now l.i (omega arith) (omega arith) w.if-first-i.false l.invariant.1)
-    ] in (omega arith, told)
-
-pub returns : goal.returns
-returns c =
-    let a = c.args in
-    let l = c.loop-i in
-    tells_all a.first.now a.second.now l.i (omega arith) (omega arith) l.invariant.1
+    let (xs, f, drains, turns) = c.fold.ensures.ran in
+    let items = items_from_drains xs (drains.1.0, drains.1.1, λ _. (drains.0, drains.1.2))
+    (YieldsList-from_zip (YieldsList-from_slice a.first.now cc) (YieldsList-from_slice a.second.now cc)) in
+    alike_all _ _ _ (λ x y q k. search (rules, tests)) xs _ f a.first.now a.second.now turns items (search rules)

@@ -15,18 +15,18 @@ use Rattle.inference.proofs.moving.apply.Goals as goal
 use Rattle.inference.proofs.moving.apply.Goals.{After-length_at, After-same, Start}
 
 inside : (s : goal.Start) → 2 * (s.args.top + s.args.count) ≤ length s.args.work.now
-inside s = omega (arith, s.requires.limit_in_bounds.2)
+inside s = omega (arith, s.requires.2)
 
 pub length_at-requires : goal.length_at-requires
 length_at-requires c =
     let s = (goal.at.length_at-requires c).Start in
-    let P = c.requires.limit_in_bounds.3 in
+    let P = c.requires.3 in
     domain_some c.args.work.now c.args.top c.args.count (inside s) P.domain P.codomain P.coded
 
 -- What is measured of the product.
 module _ (c : goal.After-length_at) where
   whole : 2 * (c.args.top + c.args.count) ≤ length c.args.work.now
-  whole = omega (arith, c.requires.limit_in_bounds.2)
+  whole = omega (arith, c.requires.2)
 
   measured : (a b : Term)
       → take (2 * c.args.count) (drop (2 * c.args.top) c.args.work.now) ≡ kept (pi a b)
@@ -38,7 +38,7 @@ module _ (c : goal.After-length_at) where
   reach : 2 * (c.args.top + 1 + c.length_at.result) ≤ length c.args.work.now
   reach =
       let g = c.args in
-      let P = c.requires.limit_in_bounds.3 in
+      let P = c.requires.3 in
       let long = product_long g.work.now g.top g.count whole P.domain P.codomain P.coded in
       omega (arith, whole, measured P.domain P.codomain P.coded)
 
@@ -51,7 +51,7 @@ told : (c : goal.After-same) (a b σ : Term)
     → Worded σ
     → (c.same.result ≡ false → σ ≢ a) × (c.same.result ≡ true → σ ≡ a)
 told c a b σ h n ha k hk =
-    let whole : 2 * (c.args.top + c.args.count) ≤ length c.args.work.now = omega (arith, c.requires.limit_in_bounds.2) in
+    let whole : 2 * (c.args.top + c.args.count) ≤ length c.args.work.now = omega (arith, c.requires.2) in
     let domain = c.args.top + 1 in
     let next = c.args.top + c.args.count in
     let words = 2 * (domain + c.length_at.result) - 2 * domain in
@@ -71,14 +71,11 @@ returns-then-not-same c = λ a b u σ h hp l hu k hk.
 pub put_in-requires : goal.put_in-requires
 put_in-requires c =
     let m = (goal.at.put_in-requires c).After-length_at in
-    let p = c.requires.limit_in_bounds in
+    let p = c.requires in
     let P = p.3 in
     let g = c.args in
     let same = measured m P.domain P.codomain P.coded in
-    record {
-      held_len = c.requires.held_len;
-      limit_in_bounds = (p.0, p.1, product_codomain g.work.now g.top g.count (whole m) P same, p.4);
-    }
+    (p.0, p.1, product_codomain g.work.now g.top g.count (whole m) P same, p.4)
 
 pub returns : goal.returns
 unfolding Worded

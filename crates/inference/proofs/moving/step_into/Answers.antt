@@ -1,9 +1,8 @@
 -- `step_into` meets its contract: its step is that of the same term, noted.
 use Prim.Native.Nat.{◌*◌}
-use mathlib.Core.Path.{◌≡◌, sym, ap, ◌∙◌}
+use mathlib.Core.Path.{◌≡◌, ap, ◌∙◌}
 use native.Mathlib.Omega.{arith}
 use lib.ListN.{length, take}
-use lib.Seq.{length-take-le}
 use Rattle.calculus.specs.Term.{Term}
 use Rattle.calculus.specs.Words.{words}
 use Rattle.calculus.proofs.Coding.{words_length}
@@ -14,34 +13,28 @@ use Rattle.inference.proofs.moving.step_into.Goals.{After-note}
 
 pub note-requires : goal.note-requires
 note-requires c =
-    let A = c.requires.limit_in_bounds.3.codes in
+    let A = c.requires.3.codes in
     let many = codes_size A in
-    (omega (arith, c.requires.held_len, A.short), omega (arith, A.short), (A.term, A.coded))
+    (omega (arith, c.told-held, A.short), omega (arith, A.short), (A.term, A.coded))
 
-pub slice_bounds-step_held-end : goal.slice_bounds-step_held-end
-slice_bounds-step_held-end c =
-    let A = c.requires.limit_in_bounds.3.codes in
-    omega (arith, c.note.auto.out, c.requires.held_len, codes_size A, A.short)
+pub shared_ref_as_front-step_held : goal.shared_ref_as_front-step_held
+shared_ref_as_front-step_held c =
+    let A = c.requires.3.codes in
+    omega (arith, c.note.auto.out, c.told-held, codes_size A, A.short)
 
 -- What is held is the term.
 cut : (c : goal.After-note) (b : Term)
     → c.args.state.now ≡ words b
     → take (2 * length c.args.state.now) c.note.new.out ≡ kept b
 cut c b h =
-    let A = c.requires.limit_in_bounds.3.codes in
+    let A = c.requires.3.codes in
     let count = ap length h ∙ words_length b in
     front_cut c.args.held.now b (length c.args.state.now) (c.note.ensures b h)
-    (omega (arith, count, c.requires.held_len, codes_size A, A.short)) count
-
-pub slice_bounds-step_held-end-2 : goal.slice_bounds-step_held-end-2
-slice_bounds-step_held-end-2 c =
-    let A = c.requires.limit_in_bounds.3.codes in
-    sym
-    (length-take-le (2 * length c.args.state.now) c.note.new.out (omega (arith, c.note.auto.out, c.requires.held_len, codes_size A, A.short)))
+    (omega (arith, count, c.told-held, codes_size A, A.short)) count
 
 pub step_held-requires : goal.step_held-requires
 step_held-requires c =
-    let p = c.requires.limit_in_bounds in
+    let p = c.requires in
     (p.0, p.1, p.2, noted_within p.3 (cut (goal.at.step_held-requires c).After-note p.3.codes.term p.3.codes.coded))
 
 pub returns : goal.returns

@@ -1,34 +1,19 @@
+-- `copy` meets its contract: where there is room the part behind `at` is the source now.
+use Prim.Native.Nat.{◌+◌, ◌-◌, ◌≤◌}
 use mathlib.Core.Path.{refl, ap, ◌∙◌}
 use native.Mathlib.Omega.{arith}
-use lib.ListN.{length-set}
-use lib.Seq.{sets, take_all}
-use Rattle.kept.proofs.Stores.{sets_next}
-use Rattle.kept.specs.declared.copying.Room.TheVariants as room
+use borrow.Rule.Slice.PartMut.{put_mid}
+use lib.ListN.{length}
+use Rattle.kept.proofs.Stores.{put_copied}
 use Rattle.kept.proofs.copying.copy.Goals as goal
-
-pub returns-then-out-at : goal.returns-then-out-at
-returns-then-out-at c = record { fits = λ h. absurd (omega arith); full = λ h. (refl, refl) }
-
-pub loop-i-preserved : goal.loop-i-preserved
-loop-i-preserved c =
-    let a = c.args in
-    let i = c.loop-i.i in
-    let inv = c.loop-i.invariant in (
-      omega arith,
-      inv.1,
-      inv.2,
-      simp length-set inv.3,
-      rw inv.4 (sets_next a.out.now a.at a.source.now i (omega arith)),
-    )
 
 pub returns : goal.returns
 returns c =
     let a = c.args in
-    let inv = c.loop-i.invariant in
+    let count = a.at + length a.source.now - a.at in
+    let h = c.copy_from_slice.ensures in
+    let room : a.at + length a.source.now ≤ length a.out.now = omega arith in
     record {
-      fits = λ h. (
-        ap room.To (omega arith),
-        inv.4 ∙ ap (sets a.out.now a.at) (take_all c.loop-i.i a.source.now (omega arith)),
-      );
-      full = λ h. absurd (omega arith);
+      fits = λ _. (refl, ap (put_mid a.at count a.out.now) h.after ∙ put_copied a.source.now a.out.now a.at room);
+      full = λ s. absurd (omega arith);
     }

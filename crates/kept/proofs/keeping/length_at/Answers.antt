@@ -4,4 +4,4 @@ use Rattle.term.proofs.Keeping.{lies_length}
 use Rattle.kept.proofs.keeping.length_at.Goals as goal
 
 pub returns : goal.returns
-returns c = record { value = c.wide.ensures; value_2 = λ t l. c.wide.ensures ∙ lies_length l }
+returns c = record { value = c.from.ensures; value_2 = λ t l. c.from.ensures ∙ lies_length l }

@@ -176,9 +176,6 @@ narrow-requires c =
     in
     omega (arith, long, span_le ws (min c.shape_of-shape.result.parts 2), few)
 
-pub bounds-out-node-in-loop-node : goal.bounds-out-node-in-loop-node
-bounds-out-node-in-loop-node c = simp length-set (omega arith)
-
 pub loop-node-preserved : goal.loop-node-preserved
 loop-node-preserved c =
     let a = c.args in

@@ -14,6 +14,3 @@ invariant-loop-node l =
     × (l.end ≡ l.at + length l.plain)
     × (length l.out ≡ length l.initial.out)
     × (l.out ≡ sets l.initial.out (2 * l.node) (noted_words (drop (l.node - l.at) l.plain)))
-
-abbrev pub decreases-loop-node : goal.decreases-loop-node
-decreases-loop-node l = l.node - l.at

@@ -14,7 +14,7 @@ use Rattle.term.proofs.Words.{shape_two}
 use Rattle.kept.specs.Rewriting.{Subject, Surveyed}
 use Rattle.kept.proofs.InPlace.{Parted, parted, clear_raised, subject_worded}
 use Rattle.kept.proofs.rewriting.+raise_parts.Goals as goal
-use Rattle.kept.proofs.rewriting.+raise_parts.Goals.{Joined-length-eq1, then-length-eq1, else-length-eq1+then-wide-back, else-length-eq1+else-wide-back}
+use Rattle.kept.proofs.rewriting.+raise_parts.Goals.{Joined-length-eq1, then-length-eq1, else-length-eq1+then-from-back, else-length-eq1+else-from-back}
 
 -- The node and its first part.
 module _ {slice : List ℕ} {n d by : ℕ} {first : List ℕ}
@@ -53,9 +53,9 @@ first t c =
     let l = c.length_at-length.ensures.value_2 p.part p.subject.lies in
     elim c.if-length-eq1.branch [
       | then-length-eq1 w ↦ w.slice-is ∙ w.raise_leaf.ensures p.part p.subject.lies (subject_worded p.subject) (sym l ∙ w.if-length-eq1.true)
-      | else-length-eq1+then-wide-back w ↦ w.slice-is ∙ w.raise_parts.ensures p.part p.subject.lies (subject_worded p.subject)
-      | else-length-eq1+else-wide-back w ↦
-          w.slice-is ∙ clear_raised a.by a.depth p.subject.lies p.surveyed (omega (arith, w.if-wide-back.false, w.wide.ensures, l))
+      | else-length-eq1+then-from-back w ↦ w.slice-is ∙ w.raise_parts.ensures p.part p.subject.lies (subject_worded p.subject)
+      | else-length-eq1+else-from-back w ↦
+          w.slice-is ∙ clear_raised a.by a.depth p.subject.lies p.surveyed (omega (arith, w.if-from-back.false, w.from.ensures, l))
     ]
 
 -- `Behind by slice n d first e after m k`: the second part of the node `e`, where the word has two, in the slice with the first part
@@ -141,9 +141,9 @@ bounds-first-back t c =
     let q = behind t (goal.at.bounds-first-back t c).Joined-length-eq1 c.if-count-gt1.true in
     omega (arith, q.near, size_positive q.part)
 
-pub raise_parts-requires-then-wide-back-2 : goal.raise_parts-requires-then-wide-back-2
-raise_parts-requires-then-wide-back-2 t c =
-    let q = behind t (goal.at.raise_parts-requires-then-wide-back-2 t c).Joined-length-eq1 c.if-count-gt1.true in
+pub raise_parts-requires-then-from-back-2 : goal.raise_parts-requires-then-from-back-2
+raise_parts-requires-then-from-back-2 t c =
+    let q = behind t (goal.at.raise_parts-requires-then-from-back-2 t c).Joined-length-eq1 c.if-count-gt1.true in
     let l = c.length_at-more.ensures.value_2 q.part q.subject.lies in
     let more = many c.length_at-more.result q.part l c.if-more-eq1.false in
     (omega (arith, c.decreases, q.near, size_positive q.part), ((q.part, q.subject, q.surveyed, more), c.requires.1))
@@ -154,17 +154,17 @@ returns-then-more-eq1 t c e l has =
     let one = sym (c.length_at-more.ensures.value_2 q.part q.subject.lies) ∙ c.if-more-eq1.true in
     c.raise_leaf-then-more-eq1.ensures q.part q.subject.lies (subject_worded q.subject) one ∙ q.whole ∙ same c.requires e l has
 
-pub returns-then-wide-back-2 : goal.returns-then-wide-back-2
-returns-then-wide-back-2 t c e l has =
-    let q = behind t (goal.at.returns-then-wide-back-2 t c).Joined-length-eq1 c.if-count-gt1.true in
-    c.raise_parts-then-wide-back-2.ensures q.part q.subject.lies (subject_worded q.subject) ∙ q.whole ∙ same c.requires e l has
+pub returns-then-from-back-2 : goal.returns-then-from-back-2
+returns-then-from-back-2 t c e l has =
+    let q = behind t (goal.at.returns-then-from-back-2 t c).Joined-length-eq1 c.if-count-gt1.true in
+    c.raise_parts-then-from-back-2.ensures q.part q.subject.lies (subject_worded q.subject) ∙ q.whole ∙ same c.requires e l has
 
-pub returns-else-wide-back-2 : goal.returns-else-wide-back-2
-returns-else-wide-back-2 t c e l has =
-    let q = behind t (goal.at.returns-else-wide-back-2 t c).Joined-length-eq1 c.if-count-gt1.true in
+pub returns-else-from-back-2 : goal.returns-else-from-back-2
+returns-else-from-back-2 t c e l has =
+    let q = behind t (goal.at.returns-else-from-back-2 t c).Joined-length-eq1 c.if-count-gt1.true in
     let long = c.length_at-more.ensures.value_2 q.part q.subject.lies in
     let k = c.args.depth + c.shape_of-shape.result.bound in
-    clear_raised c.args.by k q.subject.lies q.surveyed (omega (arith, c.if-wide-back-2.false, c.wide-else-more-eq1.ensures, long)) ∙ q.whole ∙ same c.requires e l has
+    clear_raised c.args.by k q.subject.lies q.surveyed (omega (arith, c.if-from-back-2.false, c.from-else-more-eq1.ensures, long)) ∙ q.whole ∙ same c.requires e l has
 
 -- A node with one part is raised where that is.
 pub returns-else-count-gt1 : goal.returns-else-count-gt1

@@ -7,7 +7,4 @@ use Rattle.kept.proofs.RaiseSurvey.{found}
 use Rattle.kept.proofs.rewriting.find_variables.Given as goal
 
 abbrev pub invariant-loop-node : goal.invariant-loop-node
-invariant-loop-node l = (l.from ≤ l.node) × (l.node ≤ l.to) × (l.next ≡ found l.source l.to l.node) × FirstVariables l.source l.node l.to l.first
-
-abbrev pub decreases-loop-node : goal.decreases-loop-node
-decreases-loop-node l = l.node
+invariant-loop-node l = (l.from ≤ l.node) × (l.next ≡ found l.source l.to l.node) × FirstVariables l.source l.node l.to l.first

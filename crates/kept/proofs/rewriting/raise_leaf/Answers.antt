@@ -22,20 +22,6 @@ offset_bounds-slice-node c = let h = inside (goal.at.offset_bounds-slice-node c)
 pub bounds-slice-node : goal.bounds-slice-node
 bounds-slice-node c = inside (goal.at.bounds-slice-node c).Start
 
-pub overflow_add-slice : goal.overflow_add-slice
-overflow_add-slice c =
-    let by = c.requires.1 in
-    search rules
-
-pub overflow_mul-slice : goal.overflow_mul-slice
-overflow_mul-slice c = let h = inside (goal.at.overflow_mul-slice c).Start in search rules
-
-pub offset_bounds-slice-node-then-word-lt2048 : goal.offset_bounds-slice-node-then-word-lt2048
-offset_bounds-slice-node-then-word-lt2048 c = let h = inside (goal.at.offset_bounds-slice-node-then-word-lt2048 c).Start in search rules
-
-pub bounds-slice-node-then-word-lt2048 : goal.bounds-slice-node-then-word-lt2048
-bounds-slice-node-then-word-lt2048 c = inside (goal.at.bounds-slice-node-then-word-lt2048 c).Start
-
 pub returns-then-word-lt2048 : goal.returns-then-word-lt2048
 returns-then-word-lt2048 c e l has one =
     let a = c.args in

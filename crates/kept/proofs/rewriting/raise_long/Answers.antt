@@ -20,14 +20,14 @@ raise_parts-requires c =
     let (e, coded, fits, count, long) = found.requires.0 in
     ((e, subject_whole coded fits, surveyed_whole coded count fits found.find_variables.ensures, long), found.requires.1)
 
-pub returns-then-wide-count : goal.returns-then-wide-count
-returns-then-wide-count c e h has =
-    let call = (goal.at.returns-then-wide-count c).After-raise_parts in
+pub returns-then-from-count : goal.returns-then-from-count
+returns-then-from-count c e h has =
+    let call = (goal.at.returns-then-from-count c).After-raise_parts in
     call.raise_parts.ensures e (lies_whole h) has ∙ raised_whole e h call.args.by 0
 
-pub returns-else-wide-count : goal.returns-else-wide-count
-returns-else-wide-count c e h has =
-    let found = (goal.at.returns-else-wide-count c).After-find_variables in
+pub returns-else-from-count : goal.returns-else-from-count
+returns-else-from-count c e h has =
+    let found = (goal.at.returns-else-from-count c).After-find_variables in
     let (e₀, coded, fits, count, long) = found.requires.0 in
     let by = found.args.by in
     clear_raised
@@ -35,6 +35,6 @@ returns-else-wide-count c e h has =
     0
     (lies_whole coded)
     (surveyed_whole coded count fits found.find_variables.ensures)
-    (omega (arith, c.if-wide-count.false, c.wide.ensures, count))
+    (omega (arith, c.if-from-count.false, c.from.ensures, count))
     ∙ raised_whole e₀ coded by 0
     ∙ ap (λ x. kept (raise by 0 x)) (kept_injective e₀ e (fits_worded fits) has (sym coded ∙ h))

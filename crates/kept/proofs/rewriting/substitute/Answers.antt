@@ -17,11 +17,6 @@ length_at-length-requires c =
     let (e, subject, short) = c.requires.2 in
     omega (arith, lies_within subject.lies, size_positive e)
 
-pub bounds-source-body : goal.bounds-source-body
-bounds-source-body c =
-    let (e, subject, short) = c.requires.2 in
-    omega (arith, lies_within subject.lies, size_positive e)
-
 pub put_variable-requires : goal.put_variable-requires
 put_variable-requires c =
     let i = c.in-Variable.index in

@@ -1,43 +1,42 @@
--- `line` meets its contract: its tests are those of `reply`, and each call answers its own reply.
-use mathlib.Core.Path.{sym, ◌∙◌}
+-- `line` meets its contract: each call answers its own reply.
+use mathlib.Core.Path.{refl, ◌≡◌}
+use Rattle.std.proofs.Common.{arith}
+use Rattle.std.proofs.lemmas.Grind.{common_steps}
 use Rattle.text.specs.Texts.{ascii}
-use Rattle.protocol.proofs.Requesting.{answers_error, answers_check, answers_run, answers_kinds, answers_part}
+use Rattle.protocol.specs.Answers.{reply}
+use Rattle.protocol.proofs.Requesting.{replies}
 use Rattle.protocol.proofs.answer.line.Goals as goal
 
-pub returns-then-asks : goal.returns-then-asks
-returns-then-asks c =
-    let args = c.args in
-    answers_check args.request args.words.now args.work.now c.front-term.ensures
-    (sym c.asks.ensures ∙ c.if-asks.true) (rw c.last-last.ensures at c.checked.ensures)
+pub returns-in-Some-Check : goal.returns-in-Some-Check
+returns-in-Some-Check g c =
+    let a = c.args in
+    let asked = c.in-Some-Check in
+    replies a.request a.words.now a.work.now asked.ensures asked.field-0-is c.front-term.ensures c.checked.ensures
 
-pub returns-then-asks-2 : goal.returns-then-asks-2
-returns-then-asks-2 c =
-    let args = c.args in
-    answers_run args.request args.words.now args.work.now c.front-term.ensures
-    (sym c.asks.ensures ∙ c.if-asks.false) (sym c.asks-2.ensures ∙ c.if-asks-2.true)
-    (rw (c.before_last.ensures, c.last-last.ensures) at c.ran.ensures)
+pub returns-in-Some-Run : goal.returns-in-Some-Run
+returns-in-Some-Run g c =
+    let a = c.args in
+    let asked = c.in-Some-Run in
+    let ran = rw c.alone.ensures at c.ran.ensures in
+    replies a.request a.words.now a.work.now asked.ensures asked.field-0-is c.front-term.ensures ran.replies
 
-pub returns-then-asks-3 : goal.returns-then-asks-3
-returns-then-asks-3 c =
-    let args = c.args in
-    answers_kinds args.request args.words.now args.work.now c.front-term.ensures
-    (sym c.asks.ensures ∙ c.if-asks.false) (sym c.asks-2.ensures ∙ c.if-asks-2.false)
-    (sym c.asks-3.ensures ∙ c.if-asks-3.true)
-    (rw (c.before_last-then-asks-3.ensures, c.last-last.ensures) at c.ran-then-asks-3.ensures)
+pub returns-in-Some-Kinds : goal.returns-in-Some-Kinds
+returns-in-Some-Kinds g c =
+    let a = c.args in
+    let asked = c.in-Some-Kinds in
+    let ran = rw c.alone-in-Some-Kinds.ensures at c.ran-in-Some-Kinds.ensures in
+    replies a.request a.words.now a.work.now asked.ensures asked.field-0-is c.front-term.ensures ran.replies
 
-pub returns-then-asks-4 : goal.returns-then-asks-4
-returns-then-asks-4 c =
-    let args = c.args in
-    answers_part args.request args.words.now args.work.now c.front-term.ensures
-    (sym c.asks.ensures ∙ c.if-asks.false) (sym c.asks-2.ensures ∙ c.if-asks-2.false)
-    (sym c.asks-3.ensures ∙ c.if-asks-3.false) (sym c.asks-4.ensures ∙ c.if-asks-4.true)
-    (rw c.last-last.ensures at c.parted.ensures)
+pub returns-in-Some-Part : goal.returns-in-Some-Part
+returns-in-Some-Part g c =
+    let a = c.args in
+    let asked = c.in-Some-Part in
+    replies a.request a.words.now a.work.now asked.ensures asked.field-0-is c.front-term.ensures
+    (record { text = c.parted.ensures; work = refl })
 
-pub returns : goal.returns
-unfolding ascii
-returns c =
-    let args = c.args in
-    answers_error args.request args.words.now args.work.now c.front-term.ensures
-    (sym c.asks.ensures ∙ c.if-asks.false) (sym c.asks-2.ensures ∙ c.if-asks-2.false)
-    (sym c.asks-3.ensures ∙ c.if-asks-3.false) (sym c.asks-4.ensures ∙ c.if-asks-4.false)
-    c.bytes.ensures
+pub returns-in_default : goal.returns-in_default
+unfolding reply ascii
+returns-in_default g c =
+    let a = c.args in
+    let e : reply a.request a.words.now a.work.now ≡ record { text = ascii "error"; work = a.work.now } = grind (arith, common_steps) in
+    rw e (record { text = c.text.ensures; work = refl })

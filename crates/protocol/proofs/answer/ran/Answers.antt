@@ -1,8 +1,8 @@
--- `ran` meets its contract: the run is that of caller 0, alone at the desk, and its line is that of its numbers.
-use Rattle.protocol.proofs.Replying.{run_replies}
+-- `ran` meets its contract: the line is that of the run's numbers, and the desk that of the run.
+use Rattle.protocol.proofs.Replying.{run_serves}
 use Rattle.protocol.proofs.answer.ran.Goals as goal
 
 pub returns : goal.returns
-returns c =
+returns g c =
     let a = c.args in
-    run_replies a.kinds 0 (rw c.alone.ensures at c.feguavy_run-answer.ensures.outcome) c.run_line.ensures
+    run_serves a.kinds a.caller c.feguavy_run-answer.result c.feguavy_run-answer.ensures.outcome c.run_line.ensures

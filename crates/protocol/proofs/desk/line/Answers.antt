@@ -1,31 +1,40 @@
--- `line` meets its contract: its tests are those of `served`, and each call answers its own reply.
-use mathlib.Core.Path.{sym, ◌∙◌}
+-- `line` meets its contract: each call answers its own reply.
+use mathlib.Core.Path.{refl, ◌≡◌}
+use Rattle.std.proofs.Common.{arith}
+use Rattle.std.proofs.lemmas.Grind.{common_steps}
 use Rattle.text.specs.Texts.{ascii}
-use Rattle.protocol.proofs.Serving.{serves_new, serves_run, serves_show, serves_alone}
+use Rattle.protocol.specs.Answers.{reply}
+use Rattle.protocol.specs.Desks.{Serving, served}
+use Rattle.protocol.proofs.Requesting.{serves}
 use Rattle.protocol.proofs.desk.line.Goals as goal
 
-pub returns-then-asks : goal.returns-then-asks
+pub returns-in-Some-DeskNew : goal.returns-in-Some-DeskNew
 unfolding ascii
-returns-then-asks c =
-    let args = c.args in
-    serves_new args.request args.desk args.words.now args.work.now (sym c.asks.ensures ∙ c.if-asks.true)
-    c.bytes.ensures
+returns-in-Some-DeskNew g c =
+    let a = c.args in
+    let asked = c.in-Some-DeskNew in
+    serves a.request a.words.now a.work.now asked.ensures asked.field-0-is a.desk
+    (record { replies = record { text = c.text.ensures; work = refl }; desk = refl })
 
-pub returns-then-asks-2 : goal.returns-then-asks-2
-returns-then-asks-2 c =
-    let args = c.args in
-    serves_run args.request args.desk args.words.now args.work.now (sym c.asks.ensures ∙ c.if-asks.false)
-    (sym c.asks-2.ensures ∙ c.if-asks-2.true) c.front-term.ensures
-    (rw (c.last.ensures, c.before_last-caller.ensures) at c.ran.ensures)
+pub returns-in-Some-DeskRun : goal.returns-in-Some-DeskRun
+returns-in-Some-DeskRun g c =
+    let a = c.args in
+    let asked = c.in-Some-DeskRun in
+    serves a.request a.words.now a.work.now asked.ensures asked.field-0-is a.desk (rw c.front-term.ensures at c.ran.ensures)
 
-pub returns-then-asks-3 : goal.returns-then-asks-3
-returns-then-asks-3 c =
-    let args = c.args in
-    serves_show args.request args.desk args.words.now args.work.now (sym c.asks.ensures ∙ c.if-asks.false)
-    (sym c.asks-2.ensures ∙ c.if-asks-2.false) (sym c.asks-3.ensures ∙ c.if-asks-3.true) c.shown.ensures
+pub returns-in-Some-DeskShow : goal.returns-in-Some-DeskShow
+returns-in-Some-DeskShow g c =
+    let a = c.args in
+    let asked = c.in-Some-DeskShow in
+    serves a.request a.words.now a.work.now asked.ensures asked.field-0-is a.desk
+    (record { replies = record { text = c.shown.ensures; work = refl }; desk = refl })
 
-pub returns : goal.returns
-returns c =
-    let args = c.args in
-    serves_alone args.request args.desk args.words.now args.work.now (sym c.asks.ensures ∙ c.if-asks.false)
-    (sym c.asks-2.ensures ∙ c.if-asks-2.false) (sym c.asks-3.ensures ∙ c.if-asks-3.false) c.line.ensures
+pub returns-in_default : goal.returns-in_default
+unfolding served
+returns-in_default g c =
+    let a = c.args in
+    let ws = a.words.now in
+    let W = a.work.now in
+    let alone : Serving = record { reply = reply a.request ws W; desk = a.desk.allowances } in
+    let e : served a.request a.desk.allowances ws W ≡ alone = grind (arith, common_steps) in
+    rw e (record { replies = c.line.ensures; desk = refl })

@@ -11,6 +11,7 @@ use Rattle.term.proofs.Keeping.{kept_length, lies_within}
 use Rattle.reduction.specs.declared.stepping.Kind.TheVariants.{Cancellation}
 use Rattle.reduction.proofs.Placing as place
 use Rattle.reduction.proofs.Placing.{Placed, cancel_placed, lies_node, lies_part, no_room, placed_lies, puts_part, reaches}
+use Rattle.reduction.proofs.Surrounding.{at_exit, part_lacks}
 use Rattle.reduction.proofs.stepping.cancel.Goals as goal
 use Rattle.reduction.proofs.stepping.cancel.Goals.{After-length_at, After-length_at-2, Start}
 
@@ -60,19 +61,41 @@ length_at-requires c = lies_node (annotation (goal.at.length_at-requires c).Star
 pub length_at-requires-2 : goal.length_at-requires-2
 length_at-requires-2 c = lies_node (placed_lies (redex (goal.at.length_at-requires-2 c).Start).2)
 
-pub copy_nodes-end-requires : goal.copy_nodes-end-requires
-copy_nodes-end-requires c =
-    let k = (goal.at.copy_nodes-end-requires c).After-length_at-2 in
-    let e = (redex (goal.at.copy_nodes-end-requires c).Start).1 in
-    (k.if-out-at.false, (size e, ap length (lies_part (body (goal.at.copy_nodes-end-requires c).After-length_at) (ended k)) ∙ kept_length e))
+pub copy_nodes-requires : goal.copy_nodes-requires
+copy_nodes-requires c =
+    let k = (goal.at.copy_nodes-requires c).After-length_at-2 in
+    let e = (redex (goal.at.copy_nodes-requires c).Start).1 in
+    let part = lies_part (body (goal.at.copy_nodes-requires c).After-length_at) (ended k) in
+    (k.if-out-at.false, (size e, ap length part ∙ kept_length e))
+
+-- The body of the up cast is written, if it fits.
+pub returns-in_err-end : goal.returns-in_err-end
+unfolding step under cancelled
+returns-in_err-end c =
+    let s = (goal.at.returns-in_err-end c).Start in
+    let k = (goal.at.returns-in_err-end c).After-length_at-2 in
+    let (a, e, p) = redex s in
+    let put = puts_part (body (goal.at.returns-in_err-end c).After-length_at) (ended k) c.copy_nodes.ensures in
+    let (none, full) = at_exit c.copy_nodes.result c.from_residual.result c.in_err-end.ensures.value c.from_residual.ensures.1 in
+    reaches p Cancellation e (λ v. refl) (rw full (part_lacks (p.around e) p.coded (rw none at put)))
 
 pub surround-requires : goal.surround-requires
 surround-requires c =
     let s = (goal.at.surround-requires c).Start in
     let k = (goal.at.surround-requires c).After-length_at-2 in
     let (a, e, p) = redex s in
-    let wrote = puts_part (body (goal.at.surround-requires c).After-length_at) (ended k) c.copy_nodes-end.ensures in
-    (p.term, castdown (castup a e), e, p.put e, s.args.out.now, p.around e, p.coded, p.short, s.requires.1, wrote)
+    let put = puts_part (body (goal.at.surround-requires c).After-length_at) (ended k) c.copy_nodes.ensures in (
+      p.term,
+      castdown (castup a e),
+      e,
+      p.put e,
+      s.args.out.now,
+      p.around e,
+      p.coded,
+      p.short,
+      s.requires.1,
+      rw c.in_ok-end.ensures.ok_part at put,
+    )
 
 pub returns : goal.returns
 unfolding step under cancelled
@@ -80,8 +103,9 @@ returns c =
     let s = (goal.at.returns c).Start in
     let k = (goal.at.returns c).After-length_at-2 in
     let (a, e, p) = redex s in
-    let wrote = puts_part (body (goal.at.returns c).After-length_at) (ended k) c.copy_nodes-end.ensures in
-    reaches p Cancellation e (λ v. refl) (c.surround.ensures _ _ e (p.put e) _ (p.around e) p.coded wrote)
+    let put = puts_part (body (goal.at.returns c).After-length_at) (ended k) c.copy_nodes.ensures in
+    reaches p Cancellation e (λ v. refl)
+    (c.surround.ensures _ _ e (p.put e) _ (p.around e) p.coded (rw c.in_ok-end.ensures.ok_part at put))
 
 pub overflow_add-body : goal.overflow_add-body
 overflow_add-body c = omega (arith, lies_node (body c))

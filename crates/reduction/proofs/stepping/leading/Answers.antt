@@ -13,9 +13,6 @@ use Rattle.reduction.proofs.Heads.{heads_at}
 use Rattle.reduction.proofs.stepping.leading.Goals as goal
 use Rattle.reduction.proofs.stepping.leading.Goals.{After-classify}
 
-pub loop-at-init : goal.loop-at-init
-loop-at-init c = (omega arith, omega arith, omega arith, omega arith)
-
 -- What the count is from the word on that is looked at.
 counted : (c : goal.After-classify) (b : Bool)
     → framing (variant_kind c.classify.result) ≡ b
@@ -35,9 +32,6 @@ returns-in_default c =
     let none = frames_none c.classify.result d.not-CastDown d.not-Application in
     omega (arith, counted (goal.at.returns-in_default c).After-classify false none)
 
-pub loop-at-smaller : goal.loop-at-smaller
-loop-at-smaller c = omega arith
-
 -- A down cast or an application frames what follows.
 frames : (m : Meaning) → (m ≡ CastDown) ⊎ (m ≡ Application) → framing (variant_kind m) ≡ true
 frames m (inl e) = rw e refl
@@ -46,8 +40,7 @@ frames m (inr e) = rw e refl
 pub loop-at-preserved : goal.loop-at-preserved
 loop-at-preserved c =
     let frame = counted (goal.at.loop-at-preserved c).After-classify true (frames c.classify.result c.in-CastDown.is) in
-    let inv = c.loop-at.invariant in
-    (omega arith, inv.1, inv.2, omega arith)
+    omega arith
 
 -- At most one word is behind the last node.
 at_end : (ws : List ℕ) (n : ℕ) → length ws ≤ 2 * n + 1 → heads (drop (2 * n) ws) ≡ 0

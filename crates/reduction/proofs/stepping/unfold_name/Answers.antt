@@ -7,6 +7,7 @@ use mathlib.Core.Path.{◌≡◌, ap, ◌∙◌}
 use native.Mathlib.Omega.{arith}
 use lib.ListN.{length}
 use lib.Seq.{sets}
+use Rattle.std.specs.Prelude.{Some}
 use Rattle.calculus.specs.Term.{Term, name, size}
 use Rattle.calculus.specs.Words.{words, longest}
 use Rattle.calculus.specs.Book.{Definition, Book, entry}
@@ -17,9 +18,10 @@ use Rattle.kept.specs.Writing.{Puts}
 use Rattle.reduction.specs.Stepping.{Keeps}
 use Rattle.reduction.specs.declared.stepping.Kind.TheVariants.{Unfolding}
 use Rattle.reduction.proofs.Names as names
-use Rattle.reduction.proofs.Placing.{Placed, name_placed, lies_node, lacks_room, placed_lies, placed_short, reaches_at}
+use Rattle.reduction.proofs.Placing.{Placed, name_placed, lies_node, placed_lies, placed_short, reaches_at}
+use Rattle.reduction.proofs.Surrounding.{lacks_room}
 use Rattle.reduction.proofs.stepping.unfold_name.Goals as goal
-use Rattle.reduction.proofs.stepping.unfold_name.Goals.{After-body-words, After-wide, Start}
+use Rattle.reduction.proofs.stepping.unfold_name.Goals.{After-body-words, After-from, Start}
 
 redex : (c : goal.Start) → (i : ℕ) × Placed c.args.state.now c.args.at (name i)
 redex c = name_placed c.requires.1
@@ -36,21 +38,21 @@ offset_bounds-state-at c = omega (arith, inside (goal.at.offset_bounds-state-at 
 pub bounds-state-at : goal.bounds-state-at
 bounds-state-at c = omega (arith, inside (goal.at.bounds-state-at c).Start)
 
-pub returns-in_default : goal.returns-in_default
-returns-in_default c =
-    let s = (goal.at.returns-in_default c).Start in
+pub unreachable-requires : goal.unreachable-requires
+unreachable-requires c =
+    let s = (goal.at.unreachable-requires c).Start in
     let (i, p) = redex s in
     let (B, t, held, keeps) = s.requires.0 in
     let m = c.classify.result in
-    absurd (c.in_default.not-Name i (names.no_other m i (names.name_meant p held keeps m c.classify.ensures)))
+    c.in_default.not-Name i (names.no_other m i (names.name_meant p held keeps m c.classify.ensures))
 
 -- The number that is looked up is the name's.
-number : (c : goal.After-wide) {B : Book} {t : Term}
+number : (c : goal.After-from) {B : Book} {t : Term}
     → let s = (goal.at.body-words-requires c).Start in
-    Holds B s.args.book.now → Keeps B t s.args.state.now → c.wide.result ≡ (redex s).0
+    Holds B s.args.book.now → Keeps B t s.args.state.now → c.from.result ≡ (redex s).0
 number c held keeps =
     let s = (goal.at.body-words-requires c).Start in
-    names.number_of (redex s).1 held keeps c.classify.ensures c.in-Name.is c.wide.ensures
+    names.number_of (redex s).1 held keeps c.classify.ensures c.in-Name.is c.from.ensures
 
 pub body-words-requires : goal.body-words-requires
 body-words-requires c =
@@ -69,7 +71,7 @@ found : (c : goal.After-body-words) {B : Book} {t : Term} {d : Definition}
     → c.body-words.result.now ≡ words d.body
 found c held keeps e =
     let s = (goal.at.overflow_add-body_end c).Start in
-    c.body-words.ensures _ (names.defined (redex s).1 held keeps e (number (goal.at.overflow_add-body_end c).After-wide held keeps))
+    c.body-words.ensures _ (names.defined (redex s).1 held keeps e (number (goal.at.overflow_add-body_end c).After-from held keeps))
 
 -- They are not too many, and where they end the body does.
 ended : (c : goal.After-body-words) {B : Book} {t : Term} {d : Definition}
@@ -100,7 +102,7 @@ written : (c : goal.After-body-words) {B : Book} {t : Term} {d : Definition} {af
     → entry B (redex s).0 ≡ some d
     → 2 * end ≤ length s.args.out.now
     → after ≡ sets s.args.out.now (2 * s.args.at) (kept d.body)
-    → Puts (kept d.body) s.args.out.now s.args.at end after
+    → Puts (kept d.body) s.args.out.now s.args.at (Some end) after
 written c {d = d} held keeps e room wrote = names.puts_noted d.body (ap (λ n. c.args.at + n) (ended c held keeps e).0) room wrote
 
 pub overflow_add-body_end : goal.overflow_add-body_end
@@ -118,7 +120,7 @@ returns-then-out-body_end c who B t held keeps there =
     let x = d.body in
     let lacks : length s.args.out.now < 2 * (s.args.at + size x) = omega (arith, c.if-out-body_end.true, (ended f held keeps e).0) in
     let steps = names.name_steps p held keeps e who there in
-    reaches_at p Unfolding x _ steps (lacks_room p Unfolding x _ lacks) t keeps.coded keeps.has_words
+    reaches_at p Unfolding x _ steps (lacks_room (p.around x) p.coded _ lacks) t keeps.coded keeps.has_words
 
 pub note-requires : goal.note-requires
 note-requires c =

@@ -5,4 +5,4 @@ use Rattle.session.proofs.Session.line_ended.Goals as goal
 pub returns : goal.returns
 returns g c =
     let a = c.args in
-    answers_line a.self a.words.now a.work.now a.out.now c.field_ended-self.ensures c.answered.ensures
+    answers_line a.self a.words.now a.work.now a.page.now c.field_ended-request.ensures c.answered.ensures

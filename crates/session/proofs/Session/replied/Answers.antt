@@ -5,10 +5,8 @@ use Rattle.session.proofs.Session.replied.Goals as goal
 
 pub returns-then-self : goal.returns-then-self
 unfolding answer_in
-returns-then-self c =
-    rw c.if-self.true c.answer.ensures
+returns-then-self g c = rw c.if-self.true c.answer.ensures
 
 pub returns : goal.returns
 unfolding answer_in
-returns c =
-    rw c.if-self.false (record { replies = c.answer-2.ensures; desk = refl })
+returns g c = rw c.if-self.false (record { replies = c.answer-2.ensures; desk = refl })

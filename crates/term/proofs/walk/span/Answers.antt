@@ -1,16 +1,13 @@
 use Prim.Native.Nat.{◌+◌, ◌-◌, ◌≤◌}
-use mathlib.Core.Path.{◌≡◌, refl, sym}
-use native.Mathlib.Nat.{zero-add, pos_of_ne-zero}
+use mathlib.Core.Path.{◌≡◌, refl}
+use native.Mathlib.Nat.{pos_of_ne-zero}
 use native.Mathlib.Omega.{arith}
 use lib.ListN.{drop, drop_of_length-le}
 use Rattle.term.specs.Walk.{span}
 use Rattle.term.proofs.Walking.{span_none, span_step}
 use Rattle.term.proofs.Words.{two_at_most}
 use Rattle.term.proofs.walk.span.Goals as goal
-use Rattle.term.proofs.walk.span.Goals.{After-parts, At-loop-at}
-
-pub loop-at-init : goal.loop-at-init
-loop-at-init c = (sym (zero-add _), omega arith, omega arith, omega arith)
+use Rattle.term.proofs.walk.span.Goals.{After-parts}
 
 -- How many parts the word at hand has at most, and the walk from behind it on.
 module _ (c : goal.After-parts) where
@@ -34,7 +31,9 @@ returns-then-left-eq0 c =
     (omega (arith, none), omega (arith, c.loop-at-test.true))
 
 pub loop-at-preserved : goal.loop-at-preserved
-loop-at-preserved c = (onward (goal.at.loop-at-preserved c).After-parts, pos_of_ne-zero c.if-left-eq0.false, omega (arith, few (goal.at.loop-at-preserved c).After-parts), omega arith)
+loop-at-preserved c =
+    let t = (goal.at.loop-at-preserved c).After-parts in
+    (onward t, pos_of_ne-zero c.if-left-eq0.false, omega (arith, few t))
 
 pub returns : goal.returns
 unfolding span
@@ -42,4 +41,4 @@ returns c =
     let i = c.loop-at in
     let ws = c.args.words.now in
     let none : span (drop i.at ws) i.left ≡ 0 = rw (drop_of_length-le _ c.loop-at-test.false) refl in
-    (omega (arith, i.invariant.0), i.invariant.3)
+    (omega (arith, i.invariant.0, i.auto.at-end), omega arith)

@@ -7,7 +7,7 @@ use Rattle.term.proofs.word.parts.Goals as goal
 pub returns-then-word-lt2 : goal.returns-then-word-lt2
 returns-then-word-lt2 c =
     let word = c.args.word in
-    omega (arith, c.wide.ensures, c.if-word-lt2.true, few_parts word (omega (arith, c.if-word-lt2.true)))
+    omega (arith, c.from.ensures, c.if-word-lt2.true, few_parts word (omega (arith, c.if-word-lt2.true)))
 
 pub returns-then-word-lt7 : goal.returns-then-word-lt7
 returns-then-word-lt7 c =

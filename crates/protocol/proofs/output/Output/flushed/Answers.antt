@@ -1,16 +1,21 @@
 -- `flushed` meets its contract: each of its three ends is one of `Flushed`.
-use Rattle.protocol.specs.Outputs.{stays, all}
-use Rattle.protocol.proofs.Flushing.{failed}
+use Rattle.std.proofs.Common.{◌≡◌, ◌≤◌, None, length, refl, rules}
+use Rattle.protocol.specs.Outputs.{stays, all, some}
 use Rattle.protocol.proofs.output.Output.flushed.Goals as goal
+use Rattle.protocol.proofs.output.Output.flushed.Goals.{in-Ok, in-Err}
 
-pub returns-then-self-ne0 : goal.returns-then-self-ne0
-returns-then-self-ne0 g c = stays c.if-self-ne0.true
-
-pub returns-then-sent-eq0 : goal.returns-then-sent-eq0
-returns-then-sent-eq0 g c = all c.if-self-ne0.false
+pub returns-then-is_some : goal.returns-then-is_some
+returns-then-is_some g c = stays (search rules)
 
 pub returns : goal.returns
 returns g c =
-    let transfer = c.write_all-sent.result in
-    failed c.args.self c.args.out.now transfer.count transfer.error c.if-self-ne0.false c.if-sent-eq0.false
-    c.filled.ensures c.write_all-sent.ensures.within c.filled-2.ensures c.lines-lines.ensures c.sum.ensures
+    let none : c.args.self.error ≡ None = search rules in
+    elim c.match-write_all.branch [
+      | in-Ok w ↦ rw (w.after-is, c.clear.ensures, none) (all refl)
+      | in-Err w ↦
+          let cut = w.in-Err.cut in
+          let within : cut.count ≤ length c.args.page.now = search rules in
+          let taken = rw w.bytes-in-Err.ensures at w.front.ensures in
+          rw (w.after-is, c.clear.ensures, w.saturating_add.ensures, w.lines-lines.ensures, taken)
+          (some cut.count cut.error none within)
+    ]

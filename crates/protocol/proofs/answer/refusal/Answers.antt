@@ -1,9 +1,0 @@
--- `refusal` meets its contract: the word and its two numbers, one behind the other.
-use Rattle.text.specs.Texts.{ascii}
-use Rattle.text.proofs.Appended.{both}
-use Rattle.protocol.proofs.answer.refusal.Goals as goal
-
-pub returns : goal.returns
-unfolding ascii
-returns c =
-    both c.bytes-named.ensures c.numbers.ensures
