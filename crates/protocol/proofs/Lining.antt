@@ -44,7 +44,7 @@ pub record Lined (bytes : List ℕ) (l₀ : Line) (at : ℕ) (l : Line) : Type 0
 -- The line is read, where nothing more of it is: at a line feed, and at the end of what there is.
 pub record Whole (bytes : List ℕ) (l₀ : Line) (at : ℕ) (l : Line) : Type 0 where
   pub line : l ≡ fed_line l₀ bytes
-  pub length : at ≡ line_length bytes
+  pub reached : at ≡ line_length bytes
 
 pub lined_start : (bytes : List ℕ) (l : Line) → Lined bytes l 0 l
 lined_start [] l = record { fed = refl; count = omega arith; kept = refl }
@@ -56,7 +56,7 @@ module _ {bytes : List ℕ} {at : ℕ} {l₀ l : Line} (h : Lined bytes l₀ at 
       let here : drop at bytes ≡ 10 ∷ drop (suc at) bytes = drop-cons bytes at 0 i ∙ ap (λ b. b ∷ drop (suc at) bytes) e in
       record {
         line = sym (ap (fed_line l) here ∙ fed_at_feed l _) ∙ h.fed;
-        length = omega (arith, h.count, ap line_length here ∙ length_at_feed (drop (suc at) bytes));
+        reached = omega (arith, h.count, ap line_length here ∙ length_at_feed (drop (suc at) bytes));
       }
 
   pub lined_end : at ≡ length bytes → Whole bytes l₀ (length bytes) l
@@ -64,7 +64,7 @@ module _ {bytes : List ℕ} {at : ℕ} {l₀ l : Line} (h : Lined bytes l₀ at 
       let here : drop at bytes ≡ [] = drop_of_length-le bytes (omega arith) in
       record {
         line = sym (ap (fed_line l) here ∙ fed_at_end l) ∙ h.fed;
-        length = omega (arith, h.count, ap line_length here ∙ length_at_end);
+        reached = omega (arith, h.count, ap line_length here ∙ length_at_end);
       }
 
   -- Any other byte is read.
@@ -90,7 +90,7 @@ module _ (input : List ℕ) (from : ℕ) where
       → (l ≡ fed_line l₀ (drop from input)) × (from + at ≡ from + line_length (drop from input))
   whole_rest {rest} {l₀} e w =
       let e : rest ≡ drop from input = e ∙ take_all (length input - from) (drop from input) (omega (arith, length-drop from input)) in
-      (w.line ∙ ap (fed_line l₀) e, omega (arith, w.length, ap line_length e))
+      (w.line ∙ ap (fed_line l₀) e, omega (arith, w.reached, ap line_length e))
 
   -- Behind the end there is none.
   pub whole_none : (l : Line) → length input < from

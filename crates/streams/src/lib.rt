@@ -2,7 +2,7 @@
 // pause, and any other failure is answered by its number, with how many bytes were moved before it.
 #![tactic(auto)]
 
-ghost use Rattle.std.specs.Prelude.{◌<◌, ◌≤◌, ◌||◌, ◌≡◌, eqb, length, take, IfErr, IfOk, IsErr, MatchOption, MatchResult};
+ghost use Rattle.std.specs.Prelude.{ℕ, ◌<◌, ◌≤◌, ◌||◌, ◌≡◌, eqb, length, take, IfErr, IfOk, IsErr, MatchOption, MatchResult};
 ghost use Rattle.std.specs.Io.KnownBytes.{Appends, WriteAppends};
 ghost use Rattle.io.specs.Counts.{IsPrefixLen};
 ghost use Rattle.streams.specs.Feeds.{feeds};
@@ -190,7 +190,9 @@ pub fn lines(bytes: &[u8]) -> usize
 }
 
 // The text before the last ` (`, or none: std ends the system's text for an error by ` (os error N)`.
-fn before_number(text: &[u8]) -> &[u8] {
+fn before_number(text: &[u8]) -> &[u8]
+    ensures { (n : ℕ) × (result.now ≡ take n text.now) }
+{
     let end = text.iter().rposition(|byte| *byte == b'(').unwrap_or(0);
     &text[..end.saturating_sub(1)]
 }
