@@ -130,6 +130,18 @@ fn numbers_of_runs() {
     remove_dir_all(&folder).unwrap();
 }
 
+/// A program that has no C library gives the archive `memset`, and nothing else.
+#[test]
+fn asks_for_memset_alone() {
+    let folder = installed("outside");
+    let listed = said(Command::new("nm").arg("-u").arg(folder.join("lib/libfeguavy.a")));
+    let mut names: Vec<&str> = listed.lines().filter_map(|line| line.trim().strip_prefix("U ")).collect();
+    names.sort_unstable();
+    names.dedup();
+    assert_eq!(names, ["memset"]);
+    remove_dir_all(&folder).unwrap();
+}
+
 #[test]
 fn example() {
     let folder = installed("example");

@@ -10,7 +10,7 @@ ghost use Rattle.calculus.specs.Step as calculus;
 ghost use Rattle.calculus.specs.Answer.{refused};
 ghost use Rattle.calculus.specs.Kinds.{counting};
 ghost use Rattle.calculus.specs.Run.{last_end, run_from};
-ghost use Rattle.calculus.specs.Outcomes.{allowance_of, alone, last_caller, lowered, run, run_room};
+ghost use Rattle.calculus.specs.Outcomes.{allowance_of, alone, grant, last_caller, lowered, run, run_room};
 ghost use Rattle.calculus.specs.Safety.{SafeRun};
 ghost use Rattle.term.specs.Reasons.{reason_of};
 ghost use Rattle.book.specs.Layout as layout;
@@ -257,6 +257,13 @@ fn refused(reason: Reason, desk: Desk) -> Outcome
     }
 }
 
+// The steps that a run of a caller is granted.
+fn granted(budget: u32, caller: u32, desk: Desk) -> u32
+    ensures { result ≡ grant budget caller desk.allowances }
+{
+    budget.min(desk.allowance_of(caller))
+}
+
 // A run of document 01, for one of the callers of the desk. Any slice holds the empty book, so an empty part of the words is lent for it.
 pub fn run(
     term: &[u16],
@@ -284,7 +291,7 @@ pub fn run(
             desk,
         };
     }
-    let grant = budget.min(desk.allowance_of(caller));
+    let grant = granted(budget, caller, desk);
     let course = perform(term, grant, work, state, &term[..0]);
     settle(course, work, caller, desk)
 }

@@ -10,7 +10,7 @@ use lib.ListN.{take}
 use lib.Seq.{sets}
 use Rattle.std.specs.Prelude.{Result, Ok, Err}
 use Rattle.calculus.specs.Term.{Term, size}
-use Rattle.calculus.specs.Answer.{Answer, refused, ◌>>=◌, over_limit}
+use Rattle.calculus.specs.Answer.{Answer, refused, ◌>>=◌, no_step, over_limit}
 use Rattle.calculus.specs.Kinds.{Kind}
 use Rattle.calculus.specs.Step.{Next, value, stuck, next}
 use Rattle.calculus.specs.Infer.{stepped}
@@ -47,6 +47,16 @@ module _ (work : List ℕ) (top limit : ℕ) {r : Result ℕ Reason} (after : Li
       within_or_over x limit
       (λ h. record { kind = j; state = x; steps = refl; fits = h; long = let s = (m.0 h).0 in cc (q, s); stored = (m.0 h).1 })
       (λ h. let s = m.1 h in absurd (true≢false (cc (q, s))))
+
+  -- Where there is no next state, the cast is refused.
+  pub rests : (p : ℕ) (n : Next) → Moves n work top limit r after → r ≡ Err NoStep → stepped p n ≡ refused no_step p
+  unfolding Moves stepped
+  rests p value m e = refl
+  rests p stuck m e = refl
+  rests p (next j x) m e =
+      within_or_over x limit
+      (λ h. let s = (m.0 h).0 in absurd (true≢false (cc (e, s))))
+      (λ h. let s = m.1 h in absurd (true≢false (cc (e, s))))
 
   -- Inference goes on with a next state by `k`, which measures it first.
   pub unmoved : {q : Reason} (p : ℕ) (n : Next) (k : Term → Answer Term)

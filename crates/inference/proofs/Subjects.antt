@@ -10,7 +10,7 @@ use native.Mathlib.Omega.{arith}
 use lib.ListN.{length, take, drop, get_or, set, length-drop, length-set}
 use lib.Seq.{take_at, drop_at, drop-drop, take-take, take-set-le, get_or-take, get_or-set_same}
 use Rattle.calculus.specs.Term.{Term, castdown, size}
-use Rattle.calculus.specs.Words.{emit, words, levels, Scoped, Named, deepest}
+use Rattle.calculus.specs.Words.{emit, words, levels, Scoped, Named, longest, deepest}
 use Rattle.calculus.specs.Rules.{Context}
 use Rattle.calculus.specs.Infer.{FittedContext}
 use Rattle.book.specs.Layout.{entries}
@@ -65,6 +65,10 @@ module _ {book : List ℕ} {Γ : Context} {e : Term} {term sub places : List ℕ
 
   pub subject_some : 1 ≤ length sub
   subject_some = omega (arith, subject_long, size_positive e)
+
+  -- The place behind the first word is one of the longest term's.
+  pub place_short : length term - length sub + 1 ≤ longest
+  place_short = omega (arith, subject_some, S.within, S.short)
 
   -- Where the words from the `k`th on stand.
   further : (k : ℕ) → k ≤ length sub → length term - length (behind k sub) ≡ (length term - length sub) + k

@@ -210,6 +210,13 @@ fn product(
     })
 }
 
+// The refusal of an up cast whose annotation does not step within the limit: it is not compared then.
+fn unstepped(reason: Reason, place: usize) -> Refusal
+    ensures { result ≡ record { reason = reason; place = place } }
+{
+    Refusal { place, reason }
+}
+
 // "Up cast: annotation has type star, else 10; body; the annotation steps, else 13; the stepped annotation is measured; it equals
 // the body's type, else 14; the annotation is the type."
 #[cycle(inferring)]
@@ -237,7 +244,7 @@ fn cast_up(
         next,
         &mut memory.held,
     )
-    .map_err(|reason| Refusal { reason, place })?;
+    .map_err(|reason| unstepped(reason, place))?;
     let end = next + count;
     if !same(&work[2 * top..2 * next], &work[2 * next..2 * end]) {
         return refused(Reason::WrongCast, place);

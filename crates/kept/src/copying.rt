@@ -11,7 +11,9 @@ pub fn copy(source: &[u16], out: &mut [u16], at: usize) -> Option<usize>
     if out.len() - at < count {
         return None;
     }
-    let end = at + count;
-    out[at..end].copy_from_slice(source);
-    Some(end)
+    // word by word: `copy_from_slice` is a call of C's `memmove`, which the archive would need from outside
+    for i in 0..count {
+        out[at + i] = source[i];
+    }
+    Some(at + count)
 }

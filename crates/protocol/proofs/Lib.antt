@@ -1,5 +1,7 @@
 -- The laws of this crate that its proofs use, and its examples.
 pub mod Examples
+pub mod Feeding
+pub mod Fields
 pub mod Lining
 pub mod Replying
 pub mod Requesting

@@ -223,7 +223,9 @@ impl Request {
         self
     }
 
-    // The field is at its end: the topic or the verb, a number or a word. A line is at its end where its last field is.
+    // The field is at its end: the topic or the verb, a number or a word. A line is at its end where its last field is. In place, as a
+    // short line has little else.
+    #[inline(always)]
     #[tactic(auto, unfolding(crate::specs::Requests::field_end))]
     pub fn field_ended(mut self, words: &mut [u16]) -> Self
         ensures { line_of result words.new ≡ field_end self words.old }

@@ -14,6 +14,7 @@ use Rattle.term.specs.declared.word.Meaning.{Meaning}
 use Rattle.term.specs.declared.word.Meaning.TheVariants.{Star, CastDown, Application, CastUp, Abstraction, Product}
 use Rattle.term.specs.declared.word.Meaning.TheVariants.{Recursion, Variable, Nothing, Name}
 use Rattle.term.specs.Word.{meaning_of}
+use Rattle.term.proofs.Visits.{tag}
 
 abbrev pub index : calculus.Meaning → ℕ
 index a_star = 0
@@ -29,6 +30,18 @@ index (a_name i) = 9
 
 unfoldable pub kind : ℕ → ℕ
 kind w = index (meaning w)
+
+pub tag_index : (m : Meaning) → tag m ≡ index (meaning_of m)
+tag_index Star = refl
+tag_index CastDown = refl
+tag_index Application = refl
+tag_index CastUp = refl
+tag_index Abstraction = refl
+tag_index Product = refl
+tag_index Recursion = refl
+tag_index (Variable i) = refl
+tag_index Nothing = refl
+tag_index (Name i) = refl
 
 -- The kind of the words that a variant classifies.
 abbrev pub variant_kind : Meaning → ℕ

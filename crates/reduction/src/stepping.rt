@@ -83,7 +83,8 @@ fn leading(state: &[u16]) -> usize
     count
 }
 
-// The redex of a state: the half of a step that writes nothing.
+// The redex of a state: the half of a step that writes nothing. In place, as what it answers need not be written down then.
+#[inline]
 #[tactic(auto, using(crate::proofs::Deciding::heads_within))]
 pub fn find_redex(state: &[u16], book: &[u16], reader: Reader) -> Result<Redex, Rest>
     requires { Held book.now state.now }
@@ -142,6 +143,8 @@ fn surround(
 }
 
 // A step at the redex at `at` that puts a part of it in for a variable: that from the node `argument` to its end, in the body at `body`.
+// In place, as a step of a short state is little more than its calls.
+#[inline(always)]
 fn put_in(
     kind: Kind,
     state: &[u16],

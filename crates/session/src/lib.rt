@@ -3,7 +3,7 @@
 #![tactic(auto)]
 
 ghost use Rattle.std.specs.ControlFlow.{MatchControlFlow};
-ghost use Rattle.std.specs.Prelude.{false, true, ◌≡◌};
+ghost use Rattle.std.specs.Prelude.{[], false, true, ◌≡◌};
 ghost use Rattle.protocol.specs.Desks.{Serves};
 ghost use Rattle.session.specs.Sessions.{
   answer_in,
@@ -229,8 +229,10 @@ fn serve_on<R: Devices, const N: usize>(
     work: &mut [u16],
     page: &mut Page<N>,
 )
-    ensures { (last : Session) × Lasts N (place (begun keeps) words.old work.old page.old) (place last words.new work.new page.new) }
+    ensures { (last : Session) × Lasts N (place (begun keeps) words.old work.old []) (place last words.new work.new page.new) }
 {
+    // nothing waits to be written before the first answer, whatever the page held
+    page.clear();
     let mut now = Session::new(keeps);
     for _ in 0..u64::MAX {
         match turn(rt, program, now, input, words, work, page) {

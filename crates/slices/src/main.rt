@@ -8,8 +8,10 @@ use streams::Devices;
 use text::front;
 use text::page::Page;
 
-// The longest slices that are lent: three words more than a check asks for at the greatest limit.
+// The longest slices that are lent: three words more than a check asks for at the greatest limit, and than a run asks for.
 const WORK: usize = 1048579;
+
+const RUN_WORK: usize = 8195;
 
 const RESULT: usize = 1027;
 
@@ -22,8 +24,9 @@ fn garbage(i: usize) -> u16 {
 
 // Fills the words with garbage.
 fn spoil(words: &mut [u16]) {
-    for (i, word) in words.iter_mut().enumerate() {
-        *word = garbage(i);
+    // over places: over the words themselves the compiler made a slower loop
+    for i in 0..words.len() {
+        words[i] = garbage(i);
     }
 }
 
@@ -75,8 +78,8 @@ fn print<R: Devices>(rt: &R, line: &[u8]) {
     }
 }
 
-// A call on the first `room` and `size` words, which hold garbage, and its line: what was asked and answered, which the call writes,
-// and what the slices hold then.
+// A call on the first `room` and `size` words, where there are so many, which hold garbage, and its line: what was asked and answered,
+// which the call writes, and what the slices hold then.
 fn call_parts<R: Devices, F: FnOnce(&mut [u16], &mut [u16], &mut Line)>(
     rt: &R,
     work: &mut [u16],
@@ -87,8 +90,9 @@ fn call_parts<R: Devices, F: FnOnce(&mut [u16], &mut [u16], &mut Line)>(
 )
     requires { F.IsAlwaysCallable call }
 {
-    let room = room.min(work.len());
-    let size = size.min(res.len());
+    if work.len() < room || res.len() < size {
+        return;
+    }
     let work = &mut work[..room];
     let res = &mut res[..size];
     spoil(work);
@@ -101,25 +105,15 @@ fn call_parts<R: Devices, F: FnOnce(&mut [u16], &mut [u16], &mut Line)>(
     print(rt, line.bytes());
 }
 
-// A call on slices of `room` and `size` words.
-fn call_on<R: Devices, F: FnOnce(&mut [u16], &mut [u16], &mut Line)>(
-    rt: &R,
-    room: usize,
-    size: usize,
-    call: F,
-)
-    requires { F.IsAlwaysCallable call }
-{
-    let mut work = [0u16; WORK];
-    let mut result = [0u16; RESULT];
-    call_parts(rt, &mut work, room, &mut result, size, call);
-}
-
 // `check LIMIT | WORDS -> ANSWER PLACE LENGTH`.
 fn check_on<R: Devices>(rt: &R, term: &[u16], limit: u32, room: usize, size: usize) {
-    call_on(
+    let mut work = [0u16; WORK];
+    let mut result = [0u16; RESULT];
+    call_parts(
         rt,
+        &mut work,
         room,
+        &mut result,
         size,
         |work: &mut [u16], output: &mut [u16], line: &mut Line| {
             let r = feguavy_check(term, limit, work, output);
@@ -140,11 +134,15 @@ struct Asked {
 }
 
 // `run CALLER BUDGET ALLOWANCE … | WORDS -> ANSWER PLACE END STEPS BETA MU CANCEL left ALLOWANCE …`, with the eight allowances before
-// and after.
+// and after. Its slices are its own: those of a check would be two megabytes more to clear for each run.
 fn run_on<R: Devices>(rt: &R, term: &[u16], asked: Asked, room: usize, size: usize) {
-    call_on(
+    let mut work = [0u16; RUN_WORK];
+    let mut result = [0u16; RESULT];
+    call_parts(
         rt,
+        &mut work,
         room,
+        &mut result,
         size,
         |work: &mut [u16], state: &mut [u16], line: &mut Line| {
             let r = feguavy_run(term, asked.budget, work, state, asked.caller, asked.desk);
@@ -172,7 +170,13 @@ fn check_all<R: Devices>(rt: &R, term: &[u16], limit: u32) {
     let room = (1024 * limit as usize).min(WORK);
     let size = (limit as usize).min(RESULT);
     check_on(rt, term, limit, room, size);
-    check_on(rt, term, limit, room + 3, size + 3);
+    check_on(
+        rt,
+        term,
+        limit,
+        (room + 3).min(WORK),
+        (size + 3).min(RESULT),
+    );
     check_on(rt, term, limit, 0, size);
     check_on(rt, term, limit, room, 0);
     if 0 < room && 0 < size {

@@ -1,13 +1,15 @@
 -- The tests of one word, in the order 5, 8, 9, by what the word means: the first that fails answers. The code knows the meaning as a
 -- variant, at times only by the number of the variant, its tag.
 use Prim.Native.Nat.{ℕ, suc, ◌<◌}
-use mathlib.Core.Bool.{Bool, true, false, true≢false}
+use mathlib.Core.Bool.{Bool, true, false, not, true≢false}
 use mathlib.Core.Logic.{◌⊎◌, inl, inr}
+use types.Run.{OneOf}
 use denote.Enum.Declared.{tag_of}
 use Rattle.term.specs.contracts.word.Meaning.{the_type}
-use mathlib.Core.Path.{◌≡◌, refl}
+use mathlib.Core.List.{List, [], ◌∷◌}
+use mathlib.Core.Path.{◌≡◌, refl, sym, subst}
 use borrow.Author.Tests.{lt-ltb}
-use lib.Dec.{T, leb, ltb, ltb→lt}
+use lib.Dec.{T, leb, ltb, eqb, ltb→lt}
 use Rattle.calculus.specs.Answer.{ok, refused, ◌>>=◌, ◌>>◌, require, no_meaning, level_65, unbound}
 use Rattle.calculus.specs.Meaning as calculus
 use Rattle.calculus.specs.Meaning.{a_variable, binds}
@@ -129,3 +131,39 @@ none_bound (Name i) a p r = refl
 -- The place of a variant in its enum.
 abbrev pub tag : Meaning → ℕ
 tag = tag_of the_type
+
+-- What holds at each of some numbers holds at one of them.
+abbrev pub Each : (ℕ → Type 0) → List ℕ → Type 0
+Each P [] = Unit
+Each P (k ∷ ks) = P k × Each P ks
+
+pub at_one : (P : ℕ → Type 0) (ks : List ℕ) → Each P ks → (x : ℕ) → OneOf ks x → P x
+at_one P [] h x e = absurd e
+at_one P (k ∷ []) h x e = subst P (sym e) h.0
+at_one P (k ∷ k' ∷ ks) h x (inl e) = subst P (sym e) h.0
+at_one P (k ∷ k' ∷ ks) h x (inr r) = at_one P (k' ∷ ks) h.1 x r
+
+-- A word of any variant but the variable is inside its binders, however many there are.
+bound_by_tag : (m : Meaning) → T (not (eqb (tag m) 7)) → (b : ℕ) → T (bound (meaning_of m) b)
+unfolding bound
+bound_by_tag Star h b = tt
+bound_by_tag CastDown h b = tt
+bound_by_tag Application h b = tt
+bound_by_tag CastUp h b = tt
+bound_by_tag Abstraction h b = tt
+bound_by_tag Product h b = tt
+bound_by_tag Recursion h b = tt
+bound_by_tag (Variable i) h b = elim h [ ]
+bound_by_tag Nothing h b = tt
+bound_by_tag (Name i) h b = tt
+
+pub no_variable : (m : Meaning) → OneOf (0 ∷ 1 ∷ 2 ∷ 3 ∷ 4 ∷ 5 ∷ 6 ∷ 8 ∷ 9 ∷ []) (tag m) → (b : ℕ) → T (bound (meaning_of m) b)
+no_variable m one =
+    bound_by_tag
+    m
+    (at_one
+    (λ t. T (not (eqb t 7)))
+    (0 ∷ 1 ∷ 2 ∷ 3 ∷ 4 ∷ 5 ∷ 6 ∷ 8 ∷ 9 ∷ [])
+    (tt, (tt, (tt, (tt, (tt, (tt, (tt, (tt, (tt, tt)))))))))
+    (tag m)
+    one)

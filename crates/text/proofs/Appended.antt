@@ -33,5 +33,12 @@ pub whole : (room : ℕ) (page bs : List ℕ) → length page + length bs ≤ ro
 unfolding appended
 whole room page bs h = ap (λ l. page ++ l) (take_all (room - length page) bs (omega arith))
 
+-- Nothing is appended to a page that is full.
+pub full : (room : ℕ) (page bs : List ℕ) → room ≤ length page → appended room page bs ≡ page
+unfolding appended
+full room page bs h =
+    let none_left : room - length page ≡ 0 = omega arith in
+    rw none_left (append-nil page)
+
 -- What a call leaves behind several appends, as one text. A number is its own value.
 pub ruleset appends = (both, none, map-id)

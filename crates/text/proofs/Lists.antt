@@ -17,6 +17,6 @@ spaced_one w = sym (append-nil (32 ∷ decimal w))
 
 -- A number more behind those that are written.
 pub spaced_next : (room : ℕ) (page vs : List ℕ) (w : ℕ)
-    → appended room (appended room (appended room page (spaced vs)) (32 ∷ [])) (decimal w) ≡ appended room page (spaced (vs ++ w ∷ []))
+    → appended room (appended room page (spaced vs)) (32 ∷ decimal w) ≡ appended room page (spaced (vs ++ w ∷ []))
 spaced_next room page vs w =
-    simp (both, append_assoc, spaced_append) (ap (λ l. appended room page (spaced vs ++ l)) (spaced_one w))
+    simp (both, spaced_append) (ap (λ l. appended room page (spaced vs ++ l)) (spaced_one w))

@@ -87,11 +87,14 @@ impl<const N: usize> Page<N> {
         self.length = end;
     }
 
-    // Appends one byte.
+    // Appends one byte. It is stored in place: a path comes byte by byte, and a call to copy it would cost more than all else.
     pub fn byte(&mut self, value: u8)
         ensures { self.new ≡ appended N self.old (value ∷ []) }
     {
-        self.text(&[value]);
+        if self.length < N {
+            self.bytes[self.length] = value;
+            self.length += 1;
+        }
     }
 
     // Appends a number in decimal.
@@ -100,7 +103,18 @@ impl<const N: usize> Page<N> {
     {
         let mut digits = [0u8; 20];
         let count = io::decimal(value, &mut digits);
-        self.text(&digits[..count]);
+        for &digit in &digits[..count] {
+            self.byte(digit);
+        }
+    }
+
+    // Appends a number in decimal, behind one space.
+    #[tactic(auto, using(crate::proofs::Appended::both))]
+    fn number(&mut self, value: u64)
+        ensures { self.new ≡ appended N self.old (32 ∷ decimal value) }
+    {
+        self.byte(b' ');
+        self.decimal(value);
     }
 
     // Appends numbers in decimal, each behind one space.
@@ -108,8 +122,7 @@ impl<const N: usize> Page<N> {
         ensures { self.new ≡ appended N self.old (spaced (map T.value numbers.now)) }
     {
         for number in numbers {
-            self.byte(b' ');
-            self.decimal(number.value());
+            self.number(number.value());
         }
     }
 

@@ -20,7 +20,7 @@ use Rattle.book.proofs.Entries.{holds_nothing}
 use Rattle.evaluation.specs.Courses.{Performs}
 use Rattle.evaluation.proofs.Answers.{meets_refusal, steps_within, meets_course}
 use Rattle.evaluation.proofs.run.Goals as goal
-use Rattle.evaluation.proofs.run.Goals.{After-min-grant, After-perform-course, In_default}
+use Rattle.evaluation.proofs.run.Goals.{After-perform-course, In_default}
 
 -- What is read.
 term_read : (c : goal.In_default)
@@ -30,16 +30,10 @@ term_read c =
     let a = c.args in
     reads_term a.term.now (sym c.in_default.ensures)
 
--- The grant.
-granted : (c : goal.After-min-grant)
-    → let a = c.args in
-    c.min-grant.result ≡ grant a.budget a.caller a.desk.allowances
-granted c = cc
-
 -- The course, over the empty book.
 performed : (c : goal.After-perform-course) {t : Term}
     → let a = c.args in
-    c.min-grant.result ≡ grant a.budget a.caller a.desk.allowances
+    c.granted-grant.result ≡ grant a.budget a.caller a.desk.allowances
     → a.term.now ≡ words t
     → Readable 0 t
     → Performs (run_from (step (bodies [])) (grant a.budget a.caller a.desk.allowances) t) a.work.now a.state.now
@@ -100,18 +94,18 @@ pub settle-requires : goal.settle-requires
 settle-requires c =
     let (t, e, r) = term_read (goal.at.settle-requires c).In_default in
     let course = c.perform-course.ensures [] t (holds_nothing _) e r in
-    let within = steps_within [] c.min-grant.result r course in
+    let within = steps_within [] c.granted-grant.result r course in
     record {
       run_room_in_bounds = omega (arith, c.if-work-lt8192.false, c.perform-course.auto.work);
       caller_le_last_caller =
-          (c.if-caller-gt7.false, omega (arith, within, granted (goal.at.settle-requires c).After-min-grant));
+          (c.if-caller-gt7.false, omega (arith, within, c.granted-grant.ensures));
     }
 
 pub returns : goal.returns
 returns c =
     let a = c.args in
     let (t, e, r) = term_read (goal.at.returns c).In_default in
-    let g = granted (goal.at.returns c).After-min-grant in
+    let g = c.granted-grant.ensures in
     let met =
     meets_course a.term.now a.budget a.caller a.desk.allowances a.work.now a.state.now e r
     (performed (goal.at.returns c).After-perform-course g e r) c.if-caller-gt7.false c.if-work-lt8192.false c.if-state-lt1024.false

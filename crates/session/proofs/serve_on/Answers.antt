@@ -3,7 +3,7 @@ use Rattle.session.proofs.Taking.{lasted_none, lasted_over, lasted_again, lasted
 use Rattle.session.proofs.serve_on.Goals as goal
 
 pub loop-init : goal.loop-init
-loop-init g c = lasted_none _
+loop-init g c = rw c.clear.ensures (lasted_none _)
 
 pub returns-in-Break : goal.returns-in-Break
 returns-in-Break g c = rw (← c.new-now.ensures) (_, lasted_over c.loop.invariant c.in-Break.ensures)

@@ -1,19 +1,19 @@
--- `copy` meets its contract: where there is room the part behind `at` is the source now.
-use Prim.Native.Nat.{◌+◌, ◌-◌, ◌≤◌}
 use mathlib.Core.Path.{refl, ap, ◌∙◌}
 use native.Mathlib.Omega.{arith}
-use borrow.Rule.Slice.PartMut.{put_mid}
-use lib.ListN.{length}
-use Rattle.kept.proofs.Stores.{put_copied}
+use lib.Seq.{sets, take_all}
+use Rattle.kept.proofs.Stores.{sets_next}
 use Rattle.kept.proofs.copying.copy.Goals as goal
+
+pub loop-i-preserved : goal.loop-i-preserved
+loop-i-preserved c =
+    let a = c.args in
+    let i = c.loop-i.i in
+    rw c.loop-i.invariant (sets_next a.out.now a.at a.source.now i (omega arith))
 
 pub returns : goal.returns
 returns c =
     let a = c.args in
-    let count = a.at + length a.source.now - a.at in
-    let h = c.copy_from_slice.ensures in
-    let room : a.at + length a.source.now ≤ length a.out.now = omega arith in
     record {
-      fits = λ _. (refl, ap (put_mid a.at count a.out.now) h.after ∙ put_copied a.source.now a.out.now a.at room);
+      fits = λ _. (refl, c.loop-i.invariant ∙ ap (sets a.out.now a.at) (take_all c.loop-i.i a.source.now (omega arith)));
       full = λ s. absurd (omega arith);
     }

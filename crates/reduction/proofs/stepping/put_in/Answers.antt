@@ -50,7 +50,12 @@ substitute-requires c =
     let s = (goal.at.substitute-requires c).Start in
     let k = (goal.at.substitute-requires c).After-length_at in
     let (y, p) = s.requires.1 in
-    (c.if-out-at.false, omega (arith, s.requires.2), body_fits p s.requires.0, argument_fits p s.requires.0 (ended k p))
+    let held = s.requires.0 in (
+      c.if-out-at.false,
+      omega (arith, s.requires.2),
+      body_fits p.around p.coded p.has_words p.short held p.inner_lies p.inner_scoped,
+      argument_fits p.around p.coded p.has_words p.short held p.outer_lies (ended k p ∙ p.outer_ends) p.outer_scoped,
+    )
 
 pub returns-in_err-end : goal.returns-in_err-end
 returns-in_err-end c y p =

@@ -19,7 +19,7 @@ loop-number-preserved g c =
     let numbers = c.args.numbers.now in
     let i = c.loop-number.number-index in
     let w = c.number-item.result in
-    rw (c.decimal.ensures, c.byte.ensures, c.loop-number.invariant, c.value.ensures)
+    rw (c.number.ensures, c.loop-number.invariant, c.value.ensures)
     (spaced_next g.row.N c.args.self.now (map value (take i numbers)) (value w)
     ∙ ap (λ x. appended g.row.N c.args.self.now (spaced (map value (take i numbers) ++ value x ∷ []))) c.number-item.is
     ∙ ap (λ l. appended g.row.N c.args.self.now (spaced l)) (sym (map_more value numbers i w (omega arith))))
