@@ -75,13 +75,11 @@ pub enum Phase {
     Words,
 }
 
-// What is known of a line so far.
+// What is known of a line so far. The phase stands apart from the other small fields: beside them it would share a word with them, which
+// each byte read would take apart.
 #[derive(Clone, Copy)]
 pub struct Request {
     pub phase: Phase,
-    // whether it is about the desk, and its verb: none before that is read, and where its letters are none's
-    pub desk: bool,
-    pub verb: Option<Verb>,
     // the last numbers, of which the newest is the last, and how many were read
     pub values: [u32; 8],
     pub numbers: u32,
@@ -93,6 +91,9 @@ pub struct Request {
     // whether any byte was read, and whether the line is no request
     pub any: bool,
     pub wrong: bool,
+    // whether it is about the desk, and its verb: none before that is read, and where its letters are none's
+    pub desk: bool,
+    pub verb: Option<Verb>,
 }
 
 // A line as far as it was read, and the place behind that.
