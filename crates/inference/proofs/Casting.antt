@@ -1,11 +1,10 @@
 -- What inference answers for a cast, by what it found of the parts: each is the definition, computed along the tests that passed.
-use Prim.Native.Nat.{ℕ, suc, ◌+◌, ◌≤◌}
+use Prim.Native.Nat.{ℕ, suc, ◌+◌, ◌≤◌, ◌<◌}
 use mathlib.Core.List.{List}
 use mathlib.Core.Logic.{◌≢◌}
 use mathlib.Core.Path.{◌≡◌, refl}
 use Rattle.calculus.specs.Term.{Term, star, castup, castdown, size}
-use Rattle.std.specs.Prelude.{Result, Err}
-use Rattle.calculus.specs.Answer.{Answer, ok, refused, ◌>>=◌, ◌>>◌, require, wrong_cast}
+use Rattle.calculus.specs.Answer.{Answer, ok, refused, ◌>>=◌, ◌>>◌, require, no_step, wrong_cast, over_limit}
 use Rattle.calculus.specs.Rules.{Context}
 use Rattle.calculus.specs.Kinds.{Kind}
 use Rattle.calculus.specs.Step.{next}
@@ -14,10 +13,7 @@ use Rattle.calculus.proofs.Testing.{equal, unequal, fitting, over}
 use Rattle.inference.specs.Inference.{judge, star_typed}
 use Rattle.inference.proofs.Passing.{star_first}
 use Rattle.inference.proofs.Parts.{Both}
-use Rattle.term.specs.Reasons.{reason_of}
-use Rattle.term.specs.declared.refusal.Reason.{Reason}
-use Rattle.inference.specs.Moving.{next_of, Moves}
-use Rattle.inference.proofs.Moved.{unmoved}
+use Rattle.inference.specs.Moving.{next_of}
 use Rattle.book.specs.declared.Reader.{Reader}
 
 -- The place `q` of the body is the one behind `p`.
@@ -27,12 +23,13 @@ module _ (who : Reader) (book : List ℕ) (L : ℕ) (Γ : Context) (p q : ℕ) (
   down = rw at refl
 
   module _ {τ : Term} (f : judge who book L Γ q e ≡ ok τ) where
-    pub down_refused : {r : Result ℕ Reason} {s : Reason} (work after : List ℕ) (top : ℕ)
-        → Moves (next_of who book τ) work top L r after
-        → r ≡ Err s
-        → judge who book L Γ p (castdown e) ≡ refused (reason_of s) p
+    pub down_rests : stepped p (next_of who book τ) ≡ refused no_step p → judge who book L Γ p (castdown e) ≡ refused no_step p
     unfolding ◌>>=◌
-    down_refused work after top m x = rw (down, f) (unmoved work top L after p (next_of who book τ) (measure L p) m x (over p))
+    down_rests s = rw (down, f, s) refl
+
+    pub down_over : {k : Kind} (x : Term) → next_of who book τ ≡ next k x → L < size x → judge who book L Γ p (castdown e) ≡ refused over_limit p
+    unfolding ◌>>=◌ stepped
+    down_over x s h = rw (down, f, s) (over p x h)
 
     pub down_typed : {k : Kind} (x : Term) → next_of who book τ ≡ next k x → size x ≤ L → judge who book L Γ p (castdown e) ≡ ok x
     unfolding ◌>>=◌ stepped
@@ -68,12 +65,13 @@ module _ {who : Reader} {book : List ℕ} {L : ℕ} {Γ : Context} {p : ℕ} {a 
   unfolding infer ◌>>=◌ ◌>>◌ require
   up_tested = rw (B.annotation, equal star, B.body) refl
 
-  pub up_refused : {r : Result ℕ Reason} {s : Reason} (before written : List ℕ) (at : ℕ)
-      → Moves (next_of who book a) before at L r written
-      → r ≡ Err s
-      → judge who book L Γ p (castup a e) ≡ refused (reason_of s) p
+  pub up_rests : stepped p (next_of who book a) ≡ refused no_step p → judge who book L Γ p (castup a e) ≡ refused no_step p
   unfolding ◌>>=◌
-  up_refused before written at m x = rw up_tested (unmoved before at L written p (next_of who book a) _ m x (λ y h. rw (over p y h) refl))
+  up_rests s = rw (up_tested, s) refl
+
+  pub up_step_over : {k : Kind} (x : Term) → next_of who book a ≡ next k x → L < size x → judge who book L Γ p (castup a e) ≡ refused over_limit p
+  unfolding ◌>>=◌ stepped
+  up_step_over x s h = rw (up_tested, s, over p x h) refl
 
   pub up_other : {k : Kind} (x : Term) → next_of who book a ≡ next k x → size x ≤ L → x ≢ B.type → judge who book L Γ p (castup a e) ≡ refused wrong_cast p
   unfolding ◌>>=◌ ◌>>◌ require stepped

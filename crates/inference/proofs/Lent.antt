@@ -14,9 +14,7 @@ use Rattle.term.proofs.Keeping.{kept_length}
 use Rattle.std.specs.Prelude.{Result, Option, Ok, Err, Some, None}
 use Rattle.reduction.specs.declared.stepping.Stepped.{Stepped}
 use Rattle.reduction.specs.declared.stepping.Halt.{Halt}
-use Rattle.reduction.specs.declared.stepping.Halt.TheVariants.{Value, Stuck, Full}
-use Rattle.term.specs.declared.refusal.Reason.{Reason}
-use Rattle.term.specs.declared.refusal.Reason.TheVariants.{NoStep, OverLimit}
+use Rattle.term.specs.declared.refusal.Reason.TheVariants.{OverLimit}
 use Rattle.kept.specs.Writing as reduction
 use Rattle.reduction.specs.Stepping.{Steps}
 use Rattle.inference.specs.Moving.{Puts, Moves}
@@ -66,30 +64,25 @@ module _ (b u : Term) (work : List ℕ) (top limit : ℕ) {reached : Option ℕ}
           full = λ h. absurd (omega (arith, behind.0));
         }
 
--- The answer of a step, by what it says of a type.
-abbrev pub told : Result Stepped Halt → Result ℕ Reason
-told (Ok s) = Ok s.length
-told (Err Value) = Err NoStep
-told (Err Stuck) = Err NoStep
-told (Err Full) = Err OverLimit
-
 -- The next state written to the front of the `limit` nodes from `top` on. (The code counts their words as the difference of two
 -- ends.)
 pub moves : (s : calculus.Next) (work : List ℕ) (top limit n : ℕ) (r : Result Stepped Halt) (part : List ℕ)
     → n ≡ 2 * limit
     → 2 * (top + limit) ≤ length work
     → Steps s (take n (drop (2 * top) work)) r part
-    → Moves s work top limit (told r) (take (2 * top) work ++ (part ++ drop n (drop (2 * top) work)))
+    → Moves s work top limit r (take (2 * top) work ++ (part ++ drop n (drop (2 * top) work)))
 unfolding Steps Moves
-moves calculus.value work top limit n r part same room_for w = ap told w.0
-moves calculus.stuck work top limit n r part same room_for w = ap told w.0
+moves calculus.value work top limit n r part same room_for w = w.0
+moves calculus.stuck work top limit n r part same room_for w = w.0
 moves (calculus.next k x) work top limit n r part same room_for (K, kind, w) =
     let many = kept_length x in
     let rest = length-drop (2 * top) work in
     let long = length-take-le n (drop (2 * top) work) (omega arith) in (
+      K,
+      kind,
       λ h.
           let g = w.fits (omega arith) in
           let whole = stored_part work (kept x) (2 * top) n (omega arith) (omega arith) in
-          (ap told g.0, ap (λ l. take (2 * top) work ++ (l ++ drop n (drop (2 * top) work))) g.1 ∙ whole),
-      λ h. ap told (w.full (omega arith)).0,
+          (g.0, ap (λ l. take (2 * top) work ++ (l ++ drop n (drop (2 * top) work))) g.1 ∙ whole),
+      λ h. (w.full (omega arith)).0,
     )

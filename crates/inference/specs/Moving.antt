@@ -8,8 +8,13 @@ use Rattle.calculus.specs.Step as calculus
 use Rattle.term.specs.Kept.{Lies, kept}
 use Rattle.book.specs.declared.Reader.{Reader}
 use Rattle.book.specs.Layout.{sight, decode, entries}
+use Rattle.reduction.specs.declared.stepping.Kind.{Kind}
+use Rattle.reduction.specs.declared.stepping.Stepped.{Stepped}
+use Rattle.reduction.specs.declared.stepping.Halt.{Halt}
+use Rattle.reduction.specs.declared.stepping.Halt.TheVariants as halt
+use Rattle.reduction.specs.Stepping.{kind_of}
 use Rattle.term.specs.declared.refusal.Reason.{Reason}
-use Rattle.term.specs.declared.refusal.Reason.TheVariants.{WrongArgument, NoStep, OverLimit}
+use Rattle.term.specs.declared.refusal.Reason.TheVariants.{WrongArgument, OverLimit}
 
 -- The step of a term over the book that a slice spells, as its reader sees it.
 unfoldable pub next_of : Reader → List ℕ → Term → calculus.Next
@@ -80,17 +85,20 @@ pub record Applies (a b u σ : Term) (work : List ℕ) (top limit : ℕ) (r : Re
       → (r ≡ Ok (size (substitute 0 u b))) × (after ≡ sets work (2 * top) (kept (substitute 0 u b)))
   pub full : σ ≡ a → limit < size (substitute 0 u b) → r ≡ Err OverLimit
 
--- The next state is written at `top`, if there is one, else 13, and if it is within the limit, else 16.
-unfoldable pub Moves : calculus.Next → List ℕ → ℕ → ℕ → Result ℕ Reason → List ℕ → Type 0
-Moves calculus.value work top limit r after = r ≡ Err NoStep
-Moves calculus.stuck work top limit r after = r ≡ Err NoStep
+-- The next state is written at `top`.
+unfoldable pub Moves : calculus.Next → List ℕ → ℕ → ℕ → Result Stepped Halt → List ℕ → Type 0
+Moves calculus.value work top limit r after = r ≡ Err halt.Value
+Moves calculus.stuck work top limit r after = r ≡ Err halt.Stuck
 Moves (calculus.next k x) work top limit r after =
-    (size x ≤ limit → (r ≡ Ok (size x)) × (after ≡ sets work (2 * top) (kept x))) × (limit < size x → r ≡ Err OverLimit)
+    (K : Kind)
+    × (kind_of K ≡ k)
+    × (size x ≤ limit → (r ≡ Ok (record { kind = K; length = size x })) × (after ≡ sets work (2 * top) (kept x)))
+    × (limit < size x → r ≡ Err halt.Full)
 
 -- "the annotation steps, else 13; the stepped annotation is measured".
-abbrev pub StepsInto : Reader → List ℕ → Term → List ℕ → ℕ → ℕ → Result ℕ Reason → List ℕ → Type 0
+abbrev pub StepsInto : Reader → List ℕ → Term → List ℕ → ℕ → ℕ → Result Stepped Halt → List ℕ → Type 0
 StepsInto who book a = Moves (next_of who book a)
 
 -- "its type steps, else 13; the stepped type".
-abbrev pub StepsType : Reader → List ℕ → Term → List ℕ → ℕ → ℕ → Result ℕ Reason → List ℕ → Type 0
+abbrev pub StepsType : Reader → List ℕ → Term → List ℕ → ℕ → ℕ → Result Stepped Halt → List ℕ → Type 0
 StepsType who book σ = Moves (next_of who book σ)

@@ -15,6 +15,7 @@ use crate::moving::{apply, step_into, step_type};
 use book::{Reader, stored_type};
 use kept::keeping::{narrow, note};
 use kept::rewriting::raise;
+use reduction::stepping::Halt;
 use term::refusal::{Reason, Refusal};
 use term::walk::span;
 use term::word::{Meaning, classify};
@@ -210,13 +211,6 @@ fn product(
     })
 }
 
-// The refusal of an up cast whose annotation does not step within the limit: it is not compared then.
-fn unstepped(reason: Reason, place: usize) -> Refusal
-    ensures { result ≡ record { reason = reason; place = place } }
-{
-    Refusal { place, reason }
-}
-
 // "Up cast: annotation has type star, else 10; body; the annotation steps, else 13; the stepped annotation is measured; it equals
 // the body's type, else 14; the annotation is the type."
 #[cycle(inferring)]
@@ -236,15 +230,21 @@ fn cast_up(
     let front = 1 + annotation.read;
     let body = infer(check, &sub[front..], depth, memory, work, top)?;
     let next = top + body.length;
-    let count = step_into(
+    let count = match step_into(
         check,
         &sub[1..front],
         depth == 0,
         work,
         next,
         &mut memory.held,
-    )
-    .map_err(|reason| unstepped(reason, place))?;
+    ) {
+        Ok(stepped) => stepped.length,
+        // A match of its own, as a proof does not know which variant an arm of two has within `Err`.
+        Err(halt) => match halt {
+            Halt::Value | Halt::Stuck => return refused(Reason::NoStep, place),
+            Halt::Full => return refused(Reason::OverLimit, place),
+        },
+    };
     let end = next + count;
     if !same(&work[2 * top..2 * next], &work[2 * next..2 * end]) {
         return refused(Reason::WrongCast, place);
@@ -274,13 +274,16 @@ fn cast_down(
 {
     let place = check.term.len() - sub.len();
     let body = infer(check, &sub[1..], depth, memory, work, top)?;
-    let length = step_type(check, depth == 0, work, top, body.length, &mut memory.held).map_err(
-        |reason| Refusal { reason, place },
-    )?;
-    Ok(Typed {
-        read: 1 + body.read,
-        length,
-    })
+    match step_type(check, depth == 0, work, top, body.length, &mut memory.held) {
+        Ok(stepped) => Ok(Typed {
+            read: 1 + body.read,
+            length: stepped.length,
+        }),
+        Err(halt) => match halt {
+            Halt::Value | Halt::Stuck => refused(Reason::NoStep, place),
+            Halt::Full => refused(Reason::OverLimit, place),
+        },
+    }
 }
 
 // "Recursion: annotation has type star, else 10; body under it; its type equals the raised annotation, else 15; the annotation."

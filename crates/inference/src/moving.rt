@@ -14,7 +14,7 @@ use crate::comparing::same;
 use kept::copying::copy;
 use kept::keeping::{length_at, note};
 use kept::rewriting::substitute;
-use reduction::stepping::{Halt, step};
+use reduction::stepping::{Halt, Stepped, step};
 use term::refusal::Reason;
 
 // The codomain that `held` begins with, with the argument put in that is kept there from node 1,024 on and has `count` nodes, written
@@ -95,24 +95,18 @@ fn step_held(
     closed: bool,
     work: &mut [u16],
     top: usize,
-) -> Result<usize, Reason>
+) -> Result<Stepped, Halt>
     requires { (2 * (top + check.now.limit) ≤ length work.old) × (check.now.limit ≤ longest) × Holds (decode check.now.book.now) check.now.book.now × HeldWithin check.now.book.now state.now closed }
     ensures { (b : Term) → state.now ≡ kept b → Worded b → Named (entries check.now.book.now) b → StepsType check.now.reader check.now.book.now b work.old top check.now.limit result work.new }
 {
     let end = top + check.limit;
-    // Two arms with one answer, as a proof does not know which variant an arm of two has.
-    match step(
+    step(
         state,
         closed,
         &mut work[2 * top..2 * end],
         check.book,
         check.reader,
-    ) {
-        Ok(stepped) => Ok(stepped.length),
-        Err(Halt::Value) => Err(Reason::NoStep),
-        Err(Halt::Stuck) => Err(Reason::NoStep),
-        Err(Halt::Full) => Err(Reason::OverLimit),
-    }
+    )
 }
 
 // The next state of a part of the caller's own words, written at `top` within the limit.
@@ -123,7 +117,7 @@ pub(crate) fn step_into(
     work: &mut [u16],
     top: usize,
     held: &mut [u16; 4096],
-) -> Result<usize, Reason>
+) -> Result<Stepped, Halt>
     requires { (2 * (top + check.now.limit) ≤ length work.old) × (check.now.limit ≤ longest) × Holds (decode check.now.book.now) check.now.book.now × CodesWithin check.now.book.now state.now closed }
     ensures { (b : Term) → state.now ≡ words b → Worded b → Named (entries check.now.book.now) b → StepsInto check.now.reader check.now.book.now b work.old top check.now.limit result work.new }
 {
@@ -140,7 +134,7 @@ pub(crate) fn step_type(
     top: usize,
     count: usize,
     held: &mut [u16; 4096],
-) -> Result<usize, Reason>
+) -> Result<Stepped, Halt>
     requires { (2 * (top + check.now.limit) ≤ length work.old) × (check.now.limit ≤ longest) × (2 * (top + count) ≤ length work.old) × Holds (decode check.now.book.now) check.now.book.now × HeldWithin check.now.book.now (take (2 * count) (drop (2 * top) work.old)) closed }
     ensures { (b : Term) → take (2 * count) (drop (2 * top) work.old) ≡ kept b → Worded b → Named (entries check.now.book.now) b → StepsType check.now.reader check.now.book.now b work.old top check.now.limit result work.new }
 {

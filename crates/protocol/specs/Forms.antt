@@ -1,64 +1,64 @@
 -- Which request a line is (docs/FORMAT.md, The line protocol): its verb, how many numbers it has, and whether words follow behind a bar.
 use Rattle.std.specs.Prelude.{ℕ, min, Bool, true, false, not, cond, ◌&&◌, Option, Some, None, eqb}
-use Rattle.protocol.specs.Requests.{letters, last, before_last}
+use Rattle.protocol.specs.Requests.{desk_topic, last, before_last}
 use Rattle.protocol.specs.declared.asked.Asked.{Asked}
 use Rattle.protocol.specs.declared.asked.Asked.TheVariants.{Check, Run, Kinds, Part, DeskNew, DeskRun, DeskShow}
-use Rattle.protocol.specs.declared.request.Phase.{Phase}
-use Rattle.protocol.specs.declared.request.Phase.TheVariants.{Verb as Letters, Numbers, Words}
 use Rattle.protocol.specs.declared.request.Request.{Request}
-use Rattle.protocol.specs.declared.request.Verb.{Verb}
-use Rattle.protocol.specs.declared.request.Verb.TheVariants.{Check as check_verb, Run as run_verb, Kinds as kinds_verb, Part as part_verb, New as new_verb, Show as show_verb}
 
--- Whether a topic, a verb and a phase are those of a form.
-abbrev pub on_topic : Bool → Bool → Bool
-on_topic desk true = desk
-on_topic desk false = not desk
+-- The verbs, their letters as one number in base 256.
+abbrev pub check_verb : ℕ
+check_verb = 426953237355
 
-abbrev pub has_verb : Option Verb → Verb → Bool
-has_verb None w = false
-has_verb (Some v) w = eqb (letters v) (letters w)
+abbrev pub run_verb : ℕ
+run_verb = 7501166
 
-abbrev pub place : Phase → ℕ
-place Letters = 0
-place Numbers = 1
-place Words = 2
+-- A run with its counts by kind.
+abbrev pub kinds_verb : ℕ
+kinds_verb = 461330343027
 
-abbrev pub in_phase : Phase → Phase → Bool
-in_phase p r = eqb (place p) (place r)
+abbrev pub part_verb : ℕ
+part_verb = 1885434484
 
--- Nothing in the line was wrong, and it has this topic, this verb and so many numbers; it ends among the words, which follow behind a
--- bar, or among the numbers, where there is none.
-unfoldable pub asks : Request → Bool → Verb → ℕ → Phase → Bool
-asks q desk verb numbers phase =
-    not q.wrong && on_topic q.desk desk && has_verb q.verb verb && eqb q.numbers numbers && in_phase q.phase phase
+-- Of the desk.
+abbrev pub new_verb : ℕ
+new_verb = 7234935
+
+abbrev pub show_verb : ℕ
+show_verb = 1936224119
+
+-- Nothing in the line was wrong, and it has this topic, this verb and so many numbers; in phase 2 words follow behind a bar, in phase 1
+-- there is none.
+unfoldable pub asks : Request → ℕ → ℕ → ℕ → ℕ → Bool
+asks q topic verb numbers phase =
+    not q.wrong && eqb q.topic topic && eqb q.verb verb && eqb q.numbers numbers && eqb q.phase phase
 
 -- `check LIMIT | WORDS`.
 abbrev pub asks_check : Request → Bool
-asks_check q = asks q false check_verb 1 Words
+asks_check q = asks q 0 check_verb 1 2
 
 -- `run BUDGET ALLOWANCE | WORDS`.
 abbrev pub asks_run : Request → Bool
-asks_run q = asks q false run_verb 2 Words
+asks_run q = asks q 0 run_verb 2 2
 
 -- `kinds BUDGET ALLOWANCE | WORDS`.
 abbrev pub asks_kinds : Request → Bool
-asks_kinds q = asks q false kinds_verb 2 Words
+asks_kinds q = asks q 0 kinds_verb 2 2
 
 -- `part NUMBER | WORDS`.
 abbrev pub asks_part : Request → Bool
-asks_part q = asks q false part_verb 1 Words
+asks_part q = asks q 0 part_verb 1 2
 
 -- `desk new ALLOWANCE …`, with eight of them.
 abbrev pub asks_desk_new : Request → Bool
-asks_desk_new q = asks q true new_verb 8 Numbers
+asks_desk_new q = asks q desk_topic new_verb 8 1
 
 -- `desk run CALLER BUDGET | WORDS`.
 abbrev pub asks_desk_run : Request → Bool
-asks_desk_run q = asks q true run_verb 2 Words
+asks_desk_run q = asks q desk_topic run_verb 2 2
 
 -- `desk show`.
 abbrev pub asks_desk_show : Request → Bool
-asks_desk_show q = asks q true show_verb 0 Numbers
+asks_desk_show q = asks q desk_topic show_verb 0 1
 
 -- The request that a line is, with its numbers, or none. No line is two of these: they differ in their topics or in their verbs.
 unfoldable pub asked : Request → Option Asked

@@ -1,19 +1,15 @@
 -- What each byte of a request line does to what is known of the line, and to the words kept (docs/FORMAT.md, The line protocol). The
 -- cases are those of the code, in its order.
-use Rattle.std.specs.Prelude.{ℕ, suc, ◌+◌, ◌-◌, ◌*◌, ◌%◌, Bool, true, false, not, cond, ◌&&◌, ◌||◌, Option, Some, None, List, [], ◌∷◌, eqb, ltb, leb, length, replicate, get_or, set}
-use Rattle.protocol.specs.declared.request.Phase.{Phase}
-use Rattle.protocol.specs.declared.request.Phase.TheVariants.{Verb as Letters, Numbers, Words}
+use Rattle.std.specs.Prelude.{ℕ, suc, ◌+◌, ◌-◌, ◌*◌, ◌%◌, Bool, true, false, cond, ◌&&◌, ◌||◌, List, [], ◌∷◌, eqb, ltb, leb, length, replicate, get_or, set}
 use Rattle.protocol.specs.declared.request.Request.{Request}
-use Rattle.protocol.specs.declared.request.Verb.{Verb}
-use Rattle.protocol.specs.declared.request.Verb.TheVariants.{Check, Run, Kinds, Part, New, Show}
 
--- The fields that a byte may change: how far the line is, whether it is about the desk, its verb and its numbers; the field being read;
--- how many words are kept; and whether it is no request.
-abbrev pub known : Request → Phase → Bool → Option Verb → List ℕ → ℕ → Request
-known q phase desk verb values numbers =
+-- The fields that a byte may change: how far the line is, its topic, its verb and its numbers; the field being read; how many words
+-- are kept; and whether it is no request.
+abbrev pub known : Request → ℕ → ℕ → ℕ → List ℕ → ℕ → Request
+known q phase topic verb values numbers =
     record {
       phase = phase;
-      desk = desk;
+      topic = topic;
       verb = verb;
       values = values;
       numbers = numbers;
@@ -28,7 +24,7 @@ abbrev pub reading : Request → ℕ → ℕ → Request
 reading q field width =
     record {
       phase = q.phase;
-      desk = q.desk;
+      topic = q.topic;
       verb = q.verb;
       values = q.values;
       numbers = q.numbers;
@@ -43,7 +39,7 @@ abbrev pub keeping : Request → ℕ → Request
 keeping q count =
     record {
       phase = q.phase;
-      desk = q.desk;
+      topic = q.topic;
       verb = q.verb;
       values = q.values;
       numbers = q.numbers;
@@ -59,7 +55,7 @@ abbrev pub refused : Request → Request
 refused q =
     record {
       phase = q.phase;
-      desk = q.desk;
+      topic = q.topic;
       verb = q.verb;
       values = q.values;
       numbers = q.numbers;
@@ -74,9 +70,9 @@ refused q =
 abbrev pub unread : Request
 unread =
     record {
-      phase = Letters;
-      desk = false;
-      verb = None;
+      phase = 0;
+      topic = 0;
+      verb = 0;
       values = replicate 8 0;
       numbers = 0;
       field = 0;
@@ -89,47 +85,24 @@ unread =
 -- A letter of the topic or of the verb, which have at most five.
 unfoldable pub letter : Request → ℕ → Request
 letter q b =
-    elim q.phase [
-      | Letters ↦ cond (ltb 4 q.width) (refused q) (reading q (q.field % 4294967296 * 256 + b) (q.width + 1))
-      | _ ↦ refused q
-    ]
+    cond (eqb q.phase 0)
+    (cond (ltb 4 q.width) (refused q) (reading q (q.field % 4294967296 * 256 + b) (q.width + 1)))
+    (refused q)
 
 -- A digit of a number or a word; a field of more than 32 bits is too large for either.
 unfoldable pub digit : Request → ℕ → Request
 digit q d =
-    elim q.phase [
-      | Letters ↦ refused q
-      | _ ↦ cond (ltb 4294967295 q.field) (refused q) (reading q (q.field * 10 + d) 1)
-    ]
+    cond (eqb q.phase 0) (refused q) (cond (ltb 4294967295 q.field) (refused q) (reading q (q.field * 10 + d) 1))
 
--- The topic `desk`, its letters as one number in base 256.
+-- The topic `desk`, its letters as one number in base 256. A line without one has the topic 0.
 abbrev pub desk_topic : ℕ
 desk_topic = 1684370283
 
--- And those of the verbs.
-abbrev pub letters : Verb → ℕ
-letters Check = 426953237355
-letters Run = 7501166
-letters Kinds = 461330343027
-letters Part = 1885434484
-letters New = 7234935
-letters Show = 1936224119
-
--- The verb of these letters.
-unfoldable pub verb_named : ℕ → Option Verb
-verb_named n =
-    cond (eqb n (letters Check)) (Some Check)
-    (cond (eqb n (letters Run)) (Some Run)
-    (cond (eqb n (letters Kinds)) (Some Kinds)
-    (cond (eqb n (letters Part)) (Some Part)
-    (cond (eqb n (letters New)) (Some New)
-    (cond (eqb n (letters Show)) (Some Show) None)))))
-
--- The letters in front of the numbers: the topic, where there is none yet, or the verb.
+-- The letters in front of the numbers: a topic, where there is none yet, or the verb.
 unfoldable pub named : Request → ℕ → Request
 named q letters =
-    cond (eqb letters desk_topic && not q.desk) (known q Letters true q.verb q.values q.numbers)
-    (known q Numbers q.desk (verb_named letters) q.values q.numbers)
+    cond (eqb letters desk_topic && eqb q.topic 0) (known q 0 letters q.verb q.values q.numbers)
+    (known q 1 q.topic letters q.values q.numbers)
 
 -- One more number behind the last seven of those before it.
 unfoldable pub pushed : List ℕ → ℕ → List ℕ
@@ -140,7 +113,7 @@ pushed vs v =
 unfoldable pub number : Request → ℕ → Request
 number q v =
     cond (ltb 4294967295 v) (refused q)
-    (cond (ltb 7 q.numbers) (refused q) (known q q.phase q.desk q.verb (pushed q.values v) (q.numbers + 1)))
+    (cond (ltb 7 q.numbers) (refused q) (known q q.phase q.topic q.verb (pushed q.values v) (q.numbers + 1)))
 
 -- The last number, and the one before it.
 abbrev pub last : Request → ℕ
@@ -169,27 +142,21 @@ unfoldable pub field_end : Request → List ℕ → Line
 field_end q ws =
     let rest = reading q 0 0 in
     cond (eqb q.width 0) (line_of q ws)
-    (elim q.phase [
-      | Letters ↦ line_of (named rest q.field) ws
-      | Numbers ↦ line_of (number rest q.field) ws
-      | Words ↦ word rest q.field ws
-    ])
+    (cond (eqb q.phase 0) (line_of (named rest q.field) ws)
+    (cond (eqb q.phase 1) (line_of (number rest q.field) ws) (word rest q.field ws)))
 
 -- The bar between the numbers and the words.
 unfoldable pub barred : Line → Line
 barred l =
     let q = l.request in
-    elim q.phase [
-      | Numbers ↦ line_of (known q Words q.desk q.verb q.values q.numbers) l.words
-      | _ ↦ line_of (refused q) l.words
-    ]
+    cond (eqb q.phase 1) (line_of (known q 2 q.topic q.verb q.values q.numbers) l.words) (line_of (refused q) l.words)
 
 -- Some byte is read.
 abbrev pub touched : Request → Request
 touched q =
     record {
       phase = q.phase;
-      desk = q.desk;
+      topic = q.topic;
       verb = q.verb;
       values = q.values;
       numbers = q.numbers;

@@ -1,10 +1,11 @@
 // The answers on their way to standard output, and what is said of them on standard error.
-ghost use Rattle.std.specs.Prelude.{◌++◌, ◌≡◌};
+ghost use Rattle.std.specs.Prelude.{◌++◌, ◌≡◌, take, MatchResult, Some};
 ghost use Rattle.text.specs.Appending.{appended};
 ghost use Rattle.text.specs.Texts.{ascii, decimal};
-ghost use Rattle.protocol.specs.Outputs.{none_yet, one_more, Flushed, Ready, Roomy};
+ghost use Rattle.streams.specs.Feeds.{feeds};
+ghost use Rattle.protocol.specs.Outputs.{none_yet, one_more, sent, sum, Flushed, Ready, Roomy};
 
-use streams::{Devices, Errno};
+use streams::{Cut, Devices, Errno};
 use text::front;
 use text::page::Page;
 
@@ -50,22 +51,32 @@ impl Output {
         if self.error.is_some() {
             return self;
         }
-        let after = match streams::write_all(rt, &mut rt.output(), page.bytes()) {
+        let bytes = page.bytes();
+        let put = streams::write_all(rt, &mut rt.output(), bytes);
+        let after = self.told(bytes, put);
+        page.clear();
+        after
+    }
+
+    // With what became of the bytes that were to be written: all answers are, or those whose line feeds were taken.
+    fn told(self, bytes: &[u8], put: Result<(), Cut>) -> Self
+        ensures { MatchResult put (λ _. result ≡ sent self self.answered self.error)
+            (λ cut. result ≡ sent self (sum self.written (feeds (take cut.count bytes.now))) (Some cut.error)) }
+    {
+        match put {
             Ok(()) => Output {
                 written: self.answered,
                 ..self
             },
             Err(cut) => {
-                let lines = streams::lines(front(page.bytes(), cut.count));
+                let lines = streams::lines(front(bytes, cut.count));
                 Output {
                     written: self.written.saturating_add(lines as u64),
                     error: Some(cut.error),
                     ..self
                 }
             }
-        };
-        page.clear();
-        after
+        }
     }
 
     // Written out where the longest line might not fit.

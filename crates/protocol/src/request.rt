@@ -6,7 +6,6 @@ ghost use Rattle.protocol.specs.Requests.{
   refused,
   letter,
   digit,
-  verb_named,
   named,
   number,
   keeping,
@@ -21,69 +20,29 @@ ghost use Rattle.protocol.specs.Requests.{
   line_length,
 };
 
-// The letters of the topic and of the verbs, as one number in base 256.
-const DESK: u64 = 1684370283;
+// The topics, their letters as one number in base 256: none, and `desk`.
+pub const NONE: u64 = 0;
 
-const CHECK: u64 = 426953237355;
+pub const DESK: u64 = 1684370283;
 
-const RUN: u64 = 7501166;
+// The phases of a line: before the verb's end, among the numbers, where a line without words ends, and behind the bar.
+const UNNAMED: u32 = 0;
 
-const KINDS: u64 = 461330343027;
+pub const BARE: u32 = 1;
 
-const PART: u64 = 1885434484;
+pub const BARRED: u32 = 2;
 
-const NEW: u64 = 7234935;
-
-const SHOW: u64 = 1936224119;
-
-// What a line asks to be done.
-#[derive(Clone, Copy, Debug, PartialEq, Eq)]
-pub enum Verb {
-    Check,
-    Run,
-    // A run with its counts by kind.
-    Kinds,
-    Part,
-    // Of the desk.
-    New,
-    Show,
-}
-
-impl Verb {
-    // The verb of these letters.
-    #[tactic(auto, unfolding(crate::specs::Requests::verb_named))]
-    fn named(letters: u64) -> Option<Verb>
-        ensures { result ≡ verb_named letters }
-    {
-        match letters {
-            CHECK => Some(Verb::Check),
-            RUN => Some(Verb::Run),
-            KINDS => Some(Verb::Kinds),
-            PART => Some(Verb::Part),
-            NEW => Some(Verb::New),
-            SHOW => Some(Verb::Show),
-            _ => None,
-        }
-    }
-}
-
-// What a field is: the topic or the verb, a number, or, behind the bar, a word.
-#[derive(Clone, Copy, Debug, PartialEq, Eq)]
-pub enum Phase {
-    Verb,
-    Numbers,
-    Words,
-}
-
-// What is known of a line so far. The phase stands apart from the other small fields: beside them it would share a word with them, which
-// each byte read would take apart.
+// What is known of a line so far. A verb may be any word; what the line asks is told at its end.
 #[derive(Clone, Copy)]
 pub struct Request {
-    pub phase: Phase,
+    pub phase: u32,
+    // what the request is about, where the line begins with that, else none; and the verb: the letters of each as one number
+    pub topic: u64,
+    pub verb: u64,
     // the last numbers, of which the newest is the last, and how many were read
     pub values: [u32; 8],
     pub numbers: u32,
-    // the field being read and how many bytes it has; letters as one number too, so that a byte is one sum whatever the field is
+    // the field being read, and how many bytes it has
     pub field: u64,
     pub width: u32,
     // how many words are kept, which stand in the caller's slice: a request is handed on without them
@@ -91,9 +50,6 @@ pub struct Request {
     // whether any byte was read, and whether the line is no request
     pub any: bool,
     pub wrong: bool,
-    // whether it is about the desk, and its verb: none before that is read, and where its letters are none's
-    pub desk: bool,
-    pub verb: Option<Verb>,
 }
 
 // A line as far as it was read, and the place behind that.
@@ -108,9 +64,9 @@ impl Request {
         ensures { result ≡ unread }
     {
         Request {
-            phase: Phase::Verb,
-            desk: false,
-            verb: None,
+            phase: UNNAMED,
+            topic: NONE,
+            verb: 0,
             values: [0; 8],
             numbers: 0,
             field: 0,
@@ -203,7 +159,7 @@ impl Request {
     fn letter(mut self, byte: u8) -> Self
         ensures { result ≡ letter self byte }
     {
-        if self.phase != Phase::Verb || 4 < self.width {
+        if self.phase != UNNAMED || 4 < self.width {
             return self.refused();
         }
         self.field = self.field % 4294967296 * 256 + u64::from(byte);
@@ -216,7 +172,7 @@ impl Request {
     fn digit(mut self, value: u8) -> Self
         ensures { result ≡ digit self value }
     {
-        if self.phase == Phase::Verb || 4294967295 < self.field {
+        if self.phase == UNNAMED || 4294967295 < self.field {
             return self.refused();
         }
         self.field = self.field * 10 + u64::from(value);
@@ -224,9 +180,7 @@ impl Request {
         self
     }
 
-    // The field is at its end: the topic or the verb, a number or a word. A line is at its end where its last field is. In place, as a
-    // short line has little else.
-    #[inline(always)]
+    // The field is at its end: the topic or the verb, a number or a word. A line is at its end where its last field is.
     #[tactic(auto, unfolding(crate::specs::Requests::field_end))]
     pub fn field_ended(mut self, words: &mut [u16]) -> Self
         ensures { line_of result words.new ≡ field_end self words.old }
@@ -238,9 +192,9 @@ impl Request {
         self.field = 0;
         self.width = 0;
         match self.phase {
-            Phase::Verb => self.named(field),
-            Phase::Numbers => self.number(field),
-            Phase::Words => self.word(field, words),
+            UNNAMED => self.named(field),
+            BARE => self.number(field),
+            _ => self.word(field, words),
         }
     }
 
@@ -249,13 +203,13 @@ impl Request {
     fn named(mut self, letters: u64) -> Self
         ensures { result ≡ named self letters }
     {
-        if letters == DESK && !self.desk {
-            self.desk = true;
-            self.phase = Phase::Verb;
+        if letters == DESK && self.topic == NONE {
+            self.topic = letters;
+            self.phase = UNNAMED;
             return self;
         }
-        self.verb = Verb::named(letters);
-        self.phase = Phase::Numbers;
+        self.verb = letters;
+        self.phase = BARE;
         self
     }
 
@@ -297,10 +251,10 @@ impl Request {
         ensures { line_of result words.new ≡ barred (field_end self words.old) }
     {
         let mut line = self.field_ended(words);
-        if line.phase != Phase::Numbers {
+        if line.phase != BARE {
             return line.refused();
         }
-        line.phase = Phase::Words;
+        line.phase = BARRED;
         line
     }
 }

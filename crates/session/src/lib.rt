@@ -100,7 +100,8 @@ impl Session {
         }
     }
 
-    // At the end of a line: the request is answered.
+    // At the end of a line: the request is answered. In place, as a short line is little more than a session handed on and back.
+    #[inline(always)]
     fn line_ended<R: Devices, const N: usize>(
         self,
         rt: &R,

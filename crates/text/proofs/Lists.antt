@@ -11,12 +11,12 @@ unfolding spaced
 spaced_append [] ws = refl
 spaced_append (v ∷ vs) ws = rw (spaced_append vs ws) (sym (append_assoc (32 ∷ decimal v) (spaced vs) (spaced ws)))
 
-spaced_one : (w : ℕ) → 32 ∷ decimal w ≡ spaced (w ∷ [])
+pub spaced_one : (w : ℕ) → spaced (w ∷ []) ≡ 32 ∷ decimal w
 unfolding spaced
-spaced_one w = sym (append-nil (32 ∷ decimal w))
+spaced_one w = append-nil (32 ∷ decimal w)
 
 -- A number more behind those that are written.
 pub spaced_next : (room : ℕ) (page vs : List ℕ) (w : ℕ)
     → appended room (appended room page (spaced vs)) (32 ∷ decimal w) ≡ appended room page (spaced (vs ++ w ∷ []))
 spaced_next room page vs w =
-    simp (both, spaced_append) (ap (λ l. appended room page (spaced vs ++ l)) (spaced_one w))
+    simp (both, spaced_append) (ap (λ l. appended room page (spaced vs ++ l)) (sym (spaced_one w)))

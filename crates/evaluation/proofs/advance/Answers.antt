@@ -1,7 +1,6 @@
 -- `advance` meets its contract: the one buffer is only read, and the step is written into the other one, in the working slice
 -- into the room for a state at its front.
 use Prim.Native.Nat.{◌*◌}
-use mathlib.Core.Path.{sym}
 use native.Mathlib.Omega.{arith}
 use lib.ListN.{length}
 use lib.Seq.{length-take-le}
@@ -10,7 +9,7 @@ use Rattle.calculus.specs.Words.{longest}
 use Rattle.calculus.specs.Book.{Book}
 use Rattle.book.specs.Layout as layout
 use Rattle.evaluation.specs.Courses.{Holds}
-use Rattle.evaluation.proofs.States.{held_within, held_length, in_lent, in_other, from_lent, from_other}
+use Rattle.evaluation.proofs.States.{held_within, in_lent, in_other, from_lent, from_other}
 use Rattle.evaluation.proofs.advance.Goals as goal
 use Rattle.evaluation.proofs.advance.Goals.{Else-lent, Then-lent}
 

@@ -20,7 +20,7 @@ use Rattle.book.proofs.Entries.{holds_nothing}
 use Rattle.evaluation.specs.Courses.{Performs}
 use Rattle.evaluation.proofs.Answers.{meets_refusal, steps_within, meets_course}
 use Rattle.evaluation.proofs.run.Goals as goal
-use Rattle.evaluation.proofs.run.Goals.{After-perform-course, In_default}
+use Rattle.evaluation.proofs.run.Goals.{After-granted-grant, After-perform-course, In_default}
 
 -- What is read.
 term_read : (c : goal.In_default)
@@ -29,6 +29,12 @@ term_read : (c : goal.In_default)
 term_read c =
     let a = c.args in
     reads_term a.term.now (sym c.in_default.ensures)
+
+-- The grant.
+granted : (c : goal.After-granted-grant)
+    → let a = c.args in
+    c.granted-grant.result ≡ grant a.budget a.caller a.desk.allowances
+granted c = c.granted-grant.ensures
 
 -- The course, over the empty book.
 performed : (c : goal.After-perform-course) {t : Term}
@@ -98,14 +104,14 @@ settle-requires c =
     record {
       run_room_in_bounds = omega (arith, c.if-work-lt8192.false, c.perform-course.auto.work);
       caller_le_last_caller =
-          (c.if-caller-gt7.false, omega (arith, within, c.granted-grant.ensures));
+          (c.if-caller-gt7.false, omega (arith, within, granted (goal.at.settle-requires c).After-granted-grant));
     }
 
 pub returns : goal.returns
 returns c =
     let a = c.args in
     let (t, e, r) = term_read (goal.at.returns c).In_default in
-    let g = c.granted-grant.ensures in
+    let g = granted (goal.at.returns c).After-granted-grant in
     let met =
     meets_course a.term.now a.budget a.caller a.desk.allowances a.work.now a.state.now e r
     (performed (goal.at.returns c).After-perform-course g e r) c.if-caller-gt7.false c.if-work-lt8192.false c.if-state-lt1024.false

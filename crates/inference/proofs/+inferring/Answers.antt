@@ -19,6 +19,8 @@ use Rattle.term.specs.Kept.{keep, kept}
 use Rattle.kept.proofs.InPlace.{raise_size}
 use Rattle.kept.proofs.Stores.{take_sets}
 use Rattle.std.specs.Prelude.{Result, Ok}
+use Rattle.reduction.specs.declared.stepping.Stepped.{Stepped}
+use Rattle.reduction.specs.declared.stepping.Halt.{Halt}
 use Rattle.term.specs.declared.refusal.Reason.{Reason}
 use Rattle.inference.specs.Moving.{Applies, StepsInto, next_of}
 use Rattle.calculus.specs.Infer as calculus
@@ -37,8 +39,8 @@ use Rattle.inference.proofs.Binding.{lam_annotation, lam_body, lam_over, lam_typ
 use Rattle.inference.proofs.Parts.{Both, annotation_found, annotation_asked, annotation_words, second_place, reaches, below, beside, both_below, both_beside, both_reach, below_context, below_wide}
 use Rattle.inference.proofs.Heads.{Headed, subject_headed, not_star, not_product}
 use Rattle.inference.proofs.Types.{type_fits, type_held, type_worded, type_named}
-use Rattle.inference.proofs.Moved.{Moved, moved, moved_front}
-use Rattle.inference.proofs.Casting.{down, down_refused, down_typed, up_annotation, up_body, up_refused, up_other, up_measured}
+use Rattle.inference.proofs.Moved.{Moved, moved, moved_front, over_limit, rests}
+use Rattle.inference.proofs.Casting.{down, down_rests, down_over, down_typed, up_annotation, up_body, up_rests, up_step_over, up_other, up_measured}
 use Rattle.inference.proofs.Applied.{says_refused, says_typed}
 use Rattle.inference.proofs.Applying.{by_function, no_function, by_argument, wrong, right}
 use Rattle.inference.proofs.Calling.{Called, called, argument_subject, argument_words, function_found, function_product, other_type, called_product}
@@ -52,7 +54,7 @@ use Rattle.inference.proofs.+inferring.Goals as goal
 use Rattle.inference.proofs.+inferring.Goals.{abstraction-then-front-check, abstraction-else-front-check, abstraction-In_ok-annotation, abstraction-Joined-front-check, abstraction-In_ok-body}
 use Rattle.inference.proofs.+inferring.Goals.{recursion-In_ok-annotation, recursion-In_ok-body}
 use Rattle.inference.proofs.+inferring.Goals.{application-In-Product, application-In_ok-argument}
-use Rattle.inference.proofs.+inferring.Goals.{cast_up-In_ok-annotation, cast_up-In_ok-body, cast_up-In_ok-count}
+use Rattle.inference.proofs.+inferring.Goals.{cast_up-In_ok-annotation, cast_up-In_ok-body, cast_up-In-Ok}
 use Rattle.inference.proofs.+inferring.Goals.{product-In_ok-domain}
 use Rattle.inference.proofs.+inferring.Goals.{infer-In-Variable, infer-In-Name}
 
@@ -520,21 +522,30 @@ cast_down-overflow_add-result t c =
     let B = typed (c.in_ok-body.ensures P.0 P.1 E) in
     omega (arith, B.read, subject_long E, E.within, E.short)
 
-pub cast_down-returns-in_err-length : goal.cast_down-returns-in_err-length
-cast_down-returns-in_err-length t c Γ e S =
+pub cast_down-returns-in-Value : goal.cast_down-returns-in-Value
+cast_down-returns-in-Value t c Γ e S =
     let B = typed (c.in_ok-body.ensures Γ e (inside S)) in
     let moves = c.step_type.ensures B.type B.lies (type_worded (inside S) _ _ _ B.found c.requires.3.allowed)
     (type_named (inside S) _ _ _ B.found) in
-    let q = err_before c.step_type.result _ c.map_err.ensures.cases c.in_err-length.was in
-    placed (down_refused _ _ _ Γ _ _ e (place_first S) B.found _ _ _ moves q.1) c.from_residual-in_err-length.ensures.1 (grind arith)
+    turned
+    (down_rests _ _ _ Γ _ _ e (place_first S) B.found (rests _ _ _ _ _ (next_of _ _ B.type) moves c.in-Err.is c.in-Value.is))
+    c.refused.ensures
 
-pub cast_down-returns : goal.cast_down-returns
-unfolding size
-cast_down-returns t c Γ e S =
+pub cast_down-returns-in-Full : goal.cast_down-returns-in-Full
+cast_down-returns-in-Full t c Γ e S =
     let B = typed (c.in_ok-body.ensures Γ e (inside S)) in
     let moves = c.step_type.ensures B.type B.lies (type_worded (inside S) _ _ _ B.found c.requires.3.allowed)
     (type_named (inside S) _ _ _ B.found) in
-    let m = moved _ _ _ _ (next_of _ _ B.type) moves (ok_before c.step_type.result _ c.map_err.ensures.cases c.in_ok-length.was) in
+    let o = over_limit _ _ _ _ (next_of _ _ B.type) moves c.in-Err.is c.in-Full.is in
+    turned (down_over _ _ _ Γ _ _ e (place_first S) B.found o.1 o.2 o.3) c.refused-in-Full.ensures
+
+pub cast_down-returns-in-Ok : goal.cast_down-returns-in-Ok
+unfolding size
+cast_down-returns-in-Ok t c Γ e S =
+    let B = typed (c.in_ok-body.ensures Γ e (inside S)) in
+    let moves = c.step_type.ensures B.type B.lies (type_worded (inside S) _ _ _ B.found c.requires.3.allowed)
+    (type_named (inside S) _ _ _ B.found) in
+    let m = moved _ _ _ _ (next_of _ _ B.type) moves c.in-Ok.is in
     found
     (down_typed _ _ _ Γ _ _ e (place_first S) B.found {k = m.kind} m.state m.steps m.fits)
     (written_type c.infer.new.work m.state (omega (arith, B.read)) m.long m.stored
@@ -734,7 +745,7 @@ up_room t c =
 -- What the step tells of the annotation.
 up_steps : (t : ℕ) (c : goal.cast_up-In_ok-annotation t) (Γ : Context) (a e : Term)
     → Subject c.args.check.now.book.now Γ (castup a e) c.args.check.now.term.now c.args.sub.now c.args.memory.now.context c.args.depth
-    → (work after : List ℕ) (at : ℕ) (r : Result ℕ Reason)
+    → (work after : List ℕ) (at : ℕ) (r : Result Stepped Halt)
     → ((b : Term)
     → take (1 + c.in_ok-annotation.annotation.read - 1) (drop 1 c.args.sub.now) ≡ words b
     → Worded b
@@ -763,13 +774,13 @@ up_compared t c Γ a e S m told =
     (B.has_words short) B.lies m.stored m.long (omega (arith, up_room t c, m.long, m.fits)) told
 
 -- The annotation's next state is within the limit.
-up_few : (t : ℕ) (c : goal.cast_up-In_ok-count t) → c.in_ok-count.count ≤ c.args.check.now.limit
+up_few : (t : ℕ) (c : goal.cast_up-In-Ok t) → c.in-Ok.stepped.length ≤ c.args.check.now.limit
 up_few t c =
     let P = c.requires in
     let F = first P.3 of_castup in
     let A = typed (c.in_ok-annotation.ensures P.0 P.1 F) in
     let moves = c.step_into.ensures P.1 (annotation_words P.3 _ _ A (of_castup {e = P.2})) (subject_worded F) F.named in
-    let m = moved _ _ _ _ (next_of _ _ P.1) moves (ok_before c.step_into.result _ c.map_err.ensures.cases c.in_ok-count.was) in
+    let m = moved _ _ _ _ (next_of _ _ P.1) moves c.in-Ok.is in
     omega (arith, m.long, m.fits)
 
 pub cast_up-slice_bounds-star_part-count : goal.cast_up-slice_bounds-star_part-count
@@ -830,12 +841,20 @@ cast_up-step_into-requires t c =
       subject_within F (eqb c.args.depth 0) (annotation_words P.3 _ _ A (of_castup {e = P.2})) (eqb-true c.args.depth 0),
     )
 
-pub cast_up-returns-in_err-count : goal.cast_up-returns-in_err-count
-cast_up-returns-in_err-count t c Γ a e S =
-    let p = goal.at.cast_up-returns-in_err-count t c in
+pub cast_up-returns-in-Value : goal.cast_up-returns-in-Value
+cast_up-returns-in-Value t c Γ a e S =
+    let p = goal.at.cast_up-returns-in-Value t c in
     let moves = up_steps t p.In_ok-annotation Γ a e S _ _ _ _ c.step_into.ensures in
-    let q = err_before c.step_into.result _ c.map_err.ensures.cases c.in_err-count.was in
-    placed (up_refused (up_both t p.In_ok-body Γ a e S) _ _ _ moves q.1) c.from_residual-in_err-count.ensures.1 (grind arith)
+    turned
+    (up_rests (up_both t p.In_ok-body Γ a e S) (rests _ _ _ _ _ (next_of _ _ a) moves c.in-Err.is c.in-Value.is))
+    c.refused.ensures
+
+pub cast_up-returns-in-Full : goal.cast_up-returns-in-Full
+cast_up-returns-in-Full t c Γ a e S =
+    let p = goal.at.cast_up-returns-in-Full t c in
+    let moves = up_steps t p.In_ok-annotation Γ a e S _ _ _ _ c.step_into.ensures in
+    let o = over_limit _ _ _ _ (next_of _ _ a) moves c.in-Err.is c.in-Full.is in
+    turned (up_step_over (up_both t p.In_ok-body Γ a e S) o.1 o.2 o.3) c.refused-in-Full.ensures
 
 pub cast_up-overflow_add-end : goal.cast_up-overflow_add-end
 cast_up-overflow_add-end t c = omega (arith, up_room t (goal.at.cast_up-overflow_add-end t c).In_ok-body, up_few t c, c.step_into.auto.work)
@@ -847,26 +866,26 @@ pub cast_up-slice_bounds-same-end : goal.cast_up-slice_bounds-same-end
 cast_up-slice_bounds-same-end t c = omega (arith, up_room t (goal.at.cast_up-slice_bounds-same-end t c).In_ok-body, up_few t c, c.step_into.auto.work)
 
 pub cast_up-overflow_mul-end : goal.cast_up-overflow_mul-end
-cast_up-overflow_mul-end t c = omega (arith, up_room t (goal.at.cast_up-overflow_mul-end t c).In_ok-body, up_few t (goal.at.cast_up-overflow_mul-end t c).In_ok-count, c.step_into.auto.work)
+cast_up-overflow_mul-end t c = omega (arith, up_room t (goal.at.cast_up-overflow_mul-end t c).In_ok-body, up_few t (goal.at.cast_up-overflow_mul-end t c).In-Ok, c.step_into.auto.work)
 
 pub cast_up-slice_bounds-same-end-2 : goal.cast_up-slice_bounds-same-end-2
-cast_up-slice_bounds-same-end-2 t c = omega (arith, up_room t (goal.at.cast_up-slice_bounds-same-end-2 t c).In_ok-body, up_few t (goal.at.cast_up-slice_bounds-same-end-2 t c).In_ok-count, c.step_into.auto.work)
+cast_up-slice_bounds-same-end-2 t c = omega (arith, up_room t (goal.at.cast_up-slice_bounds-same-end-2 t c).In_ok-body, up_few t (goal.at.cast_up-slice_bounds-same-end-2 t c).In-Ok, c.step_into.auto.work)
 
 pub cast_up-returns-then-not-same : goal.cast_up-returns-then-not-same
 cast_up-returns-then-not-same t c Γ a e S =
     let p = (goal.at.cast_up-returns-then-not-same t c).In_ok-body in
     let B = up_both t p Γ a e S in
     let moves = up_steps t (goal.at.cast_up-returns-then-not-same t c).In_ok-annotation Γ a e S _ _ _ _ c.step_into.ensures in
-    let m = moved _ _ _ _ (next_of _ _ a) moves (ok_before c.step_into.result _ c.map_err.ensures.cases c.in_ok-count.was) in
+    let m = moved _ _ _ _ (next_of _ _ a) moves c.in-Ok.is in
     let same = up_compared t p Γ a e S m c.same.ensures in
-    turned (up_other B m.state m.steps m.fits (same.0 (ap not c.if-not-same.true))) c.refused.ensures
+    turned (up_other B m.state m.steps m.fits (same.0 (ap not c.if-not-same.true))) c.refused-then-not-same.ensures
 
 pub cast_up-returns-then-check-annotation : goal.cast_up-returns-then-check-annotation
 cast_up-returns-then-check-annotation t c Γ a e S =
     let p = (goal.at.cast_up-returns-then-check-annotation t c).In_ok-body in
     let B = up_both t p Γ a e S in
     let moves = up_steps t (goal.at.cast_up-returns-then-check-annotation t c).In_ok-annotation Γ a e S _ _ _ _ c.step_into.ensures in
-    let m = moved _ _ _ _ (next_of _ _ a) moves (ok_before c.step_into.result _ c.map_err.ensures.cases c.in_ok-count.was) in
+    let m = moved _ _ _ _ (next_of _ _ a) moves c.in-Ok.is in
     let same = up_compared t p Γ a e S m c.same.ensures in
     turned
     (up_measured B m.state m.steps m.fits (same.1 (ap not c.if-not-same.false)) ∙ over _ a (omega (arith, B.read, c.if-check-annotation.true)))
@@ -892,7 +911,7 @@ cast_up-returns t c Γ a e S =
     let A = typed (c.in_ok-annotation.ensures Γ a (first S of_castup)) in
     let B = up_both t p Γ a e S in
     let moves = up_steps t (goal.at.cast_up-returns t c).In_ok-annotation Γ a e S _ _ _ _ c.step_into.ensures in
-    let m = moved _ _ _ _ (next_of _ _ a) moves (ok_before c.step_into.result _ c.map_err.ensures.cases c.in_ok-count.was) in
+    let m = moved _ _ _ _ (next_of _ _ a) moves c.in-Ok.is in
     let same = up_compared t p Γ a e S m c.same.ensures in
     let fits : size a ≤ c.args.check.now.limit = omega (arith, B.read, c.if-check-annotation.false) in
     found
