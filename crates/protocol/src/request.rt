@@ -25,7 +25,7 @@ pub const NONE: u64 = 0;
 
 pub const DESK: u64 = 1684370283;
 
-// The phases of a line: before the verb's end, among the numbers, where a line without words ends, and behind the bar.
+// The phases of a line: before the verb's end; among the numbers, where a line without words ends; and behind the bar.
 const UNNAMED: u32 = 0;
 
 pub const BARE: u32 = 1;
